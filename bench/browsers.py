@@ -2,7 +2,7 @@
 """browsers.py PROGRAM [--streams 1000] [--seed 1] [--cost]: browsers at `vncdemo serve --one-thread --web` (RFC 6455).
 
 A browser is sent what a viewer over TCP is sent; pings, closes and wrong frames are answered by their codes, wrong requests by their statuses,
-silent ones hold nobody up, and so many streams with bytes changed, put in or left out, cut anywhere, each come to an end, with viewers served
+and how a browser ended is printed; silent ones hold nobody up, and so many streams with bytes changed, put in or left out, cut anywhere, each come to an end, with viewers served
 behind them. With --cost it prints instead what processor time the server takes for a whole update of 1920 by 1080 in Raw, and for a dot to
 eight viewers, over TCP and over WebSockets in turns. The status is 1 where something is not as it should be."""
 import argparse
@@ -17,13 +17,14 @@ import time
 KEY = "dGhlIHNhbXBsZSBub25jZQ=="  # of RFC 6455, section 1.3, with its answer
 ACCEPTED = b"Sec-WebSocket-Accept: s3pPLMBiTxaQ9kYGzzhZRbK+xOo=\r\n"
 PATIENCE = 12  # a request may take ten seconds
+SOON = 5
 RAW = struct.pack(">BxHi", 2, 1, 0)
 
 
 class Server:
     def __init__(self, program, width, height):
         words = [program, "serve", "--one-thread", "--forever", "--end-with-input", "--port", "0", "--web", "0", "--viewers", "100"]
-        words += ["--width", str(width), "--height", str(height)]
+        words += ["--width", str(width), "--height", str(height), "--host", "desk.example:5800", "--origin", "http://desk.example"]
         self.process = subprocess.Popen(words, stdin=subprocess.PIPE, stdout=subprocess.DEVNULL, stderr=subprocess.PIPE, text=True)
         line = self.process.stderr.readline()
         self.port, self.web = (int(it.split(":")[1].strip(",")) for it in line.split() if it.startswith("127.0.0.1:"))
@@ -111,10 +112,10 @@ def request(port, *lines, host=None, method="GET", version="1.1"):
 class Browser(Viewer):
     """The same over a WebSocket."""
 
-    def __init__(self, port):
+    def __init__(self, port, behind=b""):
         super().__init__(port)
         self.raw, self.own = bytearray(), []
-        self.stream.sendall(request(port))
+        self.stream.sendall(request(port) + behind)
         while b"\r\n\r\n" not in self.raw:
             self.raw += self.more()
         head, _, rest = self.raw.partition(b"\r\n\r\n")
@@ -166,10 +167,39 @@ WRONG = [
 ]
 
 
+ASKS = RAW + struct.pack(">BBHHHH", 3, 0, 0, 0, 64, 48)  # 18 bytes
+STILL = b"\x05" + bytes(5)  # a pointer without a button
+# RFC 6455, 5.2 to 5.5: the same bytes in other frames, with the control frames that answer these
+RIGHT = [
+    ("a mask of zero", b"\x82\x92" + bytes(4) + ASKS, []),
+    ("frames of a byte, and empty ones", b"".join(frame(ASKS[k : k + 1]) + frame(b"") for k in range(len(ASKS))), []),
+    ("fragments and a ping between", frame(ASKS[:3], final=False) + frame(b"a", opcode=9) + frame(b"", 0, False) + frame(ASKS[3:], 0), [(10, b"a")]),
+    ("a frame of 126 bytes", frame(STILL * 18 + ASKS), []),
+    ("a frame of 65,538 bytes", frame(STILL * 10_920 + ASKS), []),
+    ("a ping of 125 bytes", frame(b"p" * 125, opcode=9) + frame(ASKS), [(10, b"p" * 125)]),
+    ("a pong that nobody asked for", frame(b"x", opcode=10) + frame(ASKS), []),
+]
+CLOSES = [(b"", b""), (b"\x03\xe8bye", b"\x03\xe8"), (b"\x0b\xb8", b"\x0b\xb8"), (b"\x13\x87" + "z\u00e4".encode(), b"\x13\x87")]
+
+
+def is_served(web, data, answers, wanted):
+    """Whether a browser that says these bytes is sent the screen, and these control frames."""
+    browser = Browser(web)
+    browser.open()
+    browser.stream.sendall(data)
+    shown = browser.take(len(wanted))
+    while len(browser.own) < len(answers):
+        browser.fill()
+    return shown == wanted and browser.own == answers
+
+
 def refused(web):
     return [
         ("a foreign page", request(web, "Origin: http://foreign.example"), 403),
         ("the server's own page", request(web, f"Origin: http://127.0.0.1:{web}"), 101),
+        ("a page that is let in", request(web, "Origin: http://desk.example"), 101),
+        ("a host that is let in", request(web, host="desk.example:5800"), 101),
+        ("that host at another port", request(web, host="desk.example:5801"), 403),
         ("a foreign host", request(web, host="foreign.example"), 403),
         ("another method", request(web, method="POST"), 405),
         ("no WebSocket", b"GET / HTTP/1.1\r\nHost: localhost\r\n\r\n", 426),
@@ -180,11 +210,28 @@ def refused(web):
     ]
 
 
-def status_of(web, data):
+TEXTS = {403: b"This host or this origin is not let in.\n", 426: b"Only WebSockets are served.\n"}
+
+
+def has_status(web, data, status):
+    """Whether a request is answered by a status and, where one is known, by its text."""
     with socket.create_connection(("127.0.0.1", web)) as stream:
         stream.settimeout(PATIENCE)
         stream.sendall(data)
-        return int(stream.recv(4096).split(b" ")[1])
+        answer = stream.recv(4096)
+        return int(answer.split(b" ")[1]) == status and answer.endswith(TEXTS.get(status, b""))
+
+
+def ending(program, data):
+    """What is printed of a browser that says these bytes behind the version."""
+    words = [program, "serve", "--one-thread", "--port", "0", "--web", "0", "--viewers", "1"]
+    with subprocess.Popen(words, stdout=subprocess.PIPE, stderr=subprocess.PIPE, text=True) as process:
+        web = int(process.stderr.readline().rpartition("127.0.0.1:")[2].split()[0].strip(","))
+        browser = Browser(web)
+        browser.send(b"RFB 003.008\n")
+        browser.answer(data)
+        browser.stream.close()
+        return process.communicate(timeout=PATIENCE)[0]
 
 
 def changed(data, chance):
@@ -203,9 +250,9 @@ def changed(data, chance):
 
 
 def ends(web, data, chance):
-    """Whether a connection that says these bytes, cut anywhere, and no more comes to its end."""
+    """Whether a connection that says these bytes, cut anywhere, and no more comes to its end, and long before its time is up."""
     with socket.create_connection(("127.0.0.1", web)) as stream:
-        stream.settimeout(PATIENCE)
+        stream.settimeout(SOON)
         try:
             while data:
                 count = chance.randint(1, 300)
@@ -231,15 +278,21 @@ def check(program, streams, seed):
         wrong.append("a browser is sent other bytes")
     if browser.answer(frame(b"ping", opcode=9)) != (10, b"ping"):
         wrong.append("a ping's answer")
-    if browser.answer(frame(struct.pack(">H", 1000) + b"bye", opcode=8)) != (8, struct.pack(">H", 1000)):
-        wrong.append("a close's answer")
+    update = wanted[-16 - 64 * 48 * 4 :]
+    wrong += [name for name, data, answers in RIGHT if not is_served(server.web, data, answers, update)]
+    wrong += [f"the answer to a close {said}" for said, answer in CLOSES if Browser(server.web).answer(frame(said, opcode=8)) != (8, answer)]
     wrong += [name for name, data, code in WRONG if Browser(server.web).answer(data) != (8, struct.pack(">H", code))]
-    wrong += [name for name, data, status in refused(server.web) if status_of(server.web, data) != status]
+    wrong += [name for name, data, status in refused(server.web) if not has_status(server.web, data, status)]
     cut = Browser(server.web)
     cut.take(12)
     cut.stream.sendall(frame(b"RFB ", final=False) + frame(b"", opcode=9) + frame(b"003.0", opcode=0, final=False) + frame(b"08\n", opcode=0))
     if cut.take(2) != b"\x01\x01" or cut.own != [(10, b"")]:
         wrong.append("a message in fragments")
+    hurried = Browser(server.web, frame(b"RFB 003.008\n"))
+    if hurried.take(14) != b"RFB 003.008\n\x01\x01":
+        wrong.append("a frame right behind a request")
+    if ending(program, frame(b"x", opcode=1)) != "viewer 1 Frames\n":
+        wrong.append("the end of one whose frames are wrong")
     silent = [socket.create_connection(("127.0.0.1", server.web)) for _ in range(200)]
     began = time.monotonic()
     if Browser(server.web).session(64, 48) != wanted or time.monotonic() - began > 2:
@@ -256,7 +309,7 @@ def check(program, streams, seed):
         stream.close()
     if server.end():
         wrong.append("the status")
-    print("\n".join(f"WRONG: {it}" for it in wrong) or "all as it should be", f"\n{len(WRONG)} wrong frames, {len(refused(1))} requests, {streams} changed streams")
+    print("\n".join(f"WRONG: {it}" for it in wrong) or "all as it should be", f"\n{len(RIGHT)} right forms, {len(WRONG)} wrong frames, {len(refused(1))} requests, {streams} changed streams")
     return bool(wrong)
 
 

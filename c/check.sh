@@ -154,7 +154,7 @@ run() { # NAME PROGRAM HOW..: each example, as it is to be run
     shift 2
     case $name in
     play) "$@" "$program" | cmp - "$here/../crates/vncdemo/stdout" ;;
-    edges | server_edges | rfb_edges | screen_calls | server_calls | server_adopt | server_viewers | server_events | server_limits | server_record) says_ok "$name" "$@" "$program" ;;
+    edges | server_edges | rfb_edges | screen_calls | server_calls | server_adopt | server_viewers | server_events | server_limits | server_record | server_web) says_ok "$name" "$@" "$program" ;;
     serve) looked_at "640 by 480, . colours, demo" "$@" "$program" PORT 3 ;;
     threads) looked_at "640 by 480, [23] colours, threads" "$@" "$program" PORT 3 ;;
     clock) looked_at "172 by 44, 3 colours, clock" "$@" "$program" PORT 10 ;;
@@ -175,7 +175,7 @@ if ! { $CC $sanitize -o "$room/none" "$room/none.c" && "$room/none"; } 2>/dev/nu
     sanitize=
     left+=("sanitizers: not installed")
 fi
-for source in "$here"/examples/*.c "$here"/tools/{rfb_edges,screen_calls,server_calls,server_adopt,server_viewers,server_events,server_limits,server_record}.c; do
+for source in "$here"/examples/*.c "$here"/tools/{rfb_edges,screen_calls,server_calls,server_adopt,server_viewers,server_events,server_limits,server_record,server_web}.c; do
     name=$(basename "$source" .c)
     for standard in c99 c11 c++17; do
         case $standard in c++*) have "${CXX:-c++}" || continue ;; esac
@@ -320,7 +320,7 @@ refused() { # PROGRAM FIRST LAST ARGUMENT..
 if $CC -Wall -Wextra -Werror -shared -fPIC -o "$room/refuse.so" "$here/tools/refuse.c" -ldl; then
     for name in play edges server_edges rfb_edges screen_calls; do try "$name: each of its first 150 allocations is refused" refused "$name" 1 150; done
     try "rfb_edges, its second half first: each of its first 150 allocations is refused" refused rfb_edges 1 150 second
-    for name in server_calls server_adopt server_viewers server_events server_limits server_record; do
+    for name in server_calls server_adopt server_viewers server_events server_limits server_record server_web; do
         try "$name: each of its first 150 allocations is refused" refused "$name" 1 150 soon
     done
     for name in clock sketch own_pixels own_loop; do try "$name: each of its first 40 allocations is refused" refused "$name" 1 40 0 1; done

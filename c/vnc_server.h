@@ -85,7 +85,8 @@ enum vnc_reason {
     VNC_REASON_WRITE_FAILED = 4, /* writing to its socket failed */
     VNC_REASON_NO_MEMORY = 5,    /* there was no memory for it */
     VNC_REASON_CLOSED = 6,       /* by vnc_server_close_viewer */
-    VNC_REASON_TIMEOUT = 7       /* its opening took more than 10 seconds */
+    VNC_REASON_TIMEOUT = 7,      /* its opening took more than 10 seconds */
+    VNC_REASON_FRAMES = 9        /* a browser sent what no frame is */
 };
 
 /* A viewer came or went. Fields of the other kind are 0. */
@@ -93,7 +94,8 @@ typedef struct vnc_event {
     uint64_t viewer; /* from 1 on, as they come; none again before listening */
     uint32_t kind;   /* a vnc_event_kind */
     uint32_t reason; /* of one that went: a vnc_reason */
-    int32_t fault;   /* of VNC_REASON_FAULT: a vnc_fault */
+    int32_t fault;   /* of VNC_REASON_FAULT: a vnc_fault; of
+                        VNC_REASON_FRAMES: the code of its close */
 } vnc_event;
 VNC_LAYOUT(vnc_event, 24, 8);
 
@@ -169,6 +171,59 @@ static inline int32_t vnc_server_serve(vnc_server *server,
     return code;
 }
 
+/* Does what vnc_server_listen_also does, for an address of so many bytes. */
+int32_t vnc_server_listen_also_n(vnc_server *server,
+                                 const uint8_t *address, size_t address_count,
+                                 uint16_t port);
+
+/* Listens on one more port, also where the server listened nowhere. Who comes
+ * there is a viewer as the others are; from several ports they are accepted in
+ * turn. `address` and `port` are as those of vnc_server_listen. The picture,
+ * the viewers and the other ports stay.
+ * Returns the port, or VNC_ERROR_BAD_ADDRESS, VNC_ERROR_CANNOT_LISTEN,
+ * VNC_ERROR_NO_MEMORY, or VNC_ERROR_TOO_MANY_PORTS where it listens on eight
+ * already. */
+static inline int32_t vnc_server_listen_also(vnc_server *server,
+                                             const char *address,
+                                             uint16_t port)
+{
+    return vnc_server_listen_also_n(server, (const uint8_t *)address,
+                                    strlen(address), port);
+}
+
+/* Does what vnc_server_listen_web does, for texts of so many bytes. */
+int32_t vnc_server_listen_web_n(vnc_server *server,
+                                const uint8_t *address, size_t address_count,
+                                uint16_t port,
+                                const uint8_t *hosts, size_t host_count,
+                                const uint8_t *origins, size_t origin_count);
+
+/* Listens on a port for browsers, which are viewers over WebSockets (RFC 6455),
+ * as noVNC is; in place of one on which it listened for them before. TLS is
+ * for a proxy in front. `address` and `port` are as those of vnc_server_listen.
+ *   hosts    which names in a request's Host are let in besides 127.0.0.1,
+ *            localhost and [::1] at any port: each as a browser writes it, as
+ *            "desk.example:6080", with commas in between; "" for no other
+ *   origins  pages of which other hosts are let in, each as a browser writes
+ *            it, as "https://page.example", with commas in between; "" for
+ *            none: then a page has to come from the very host and port that it
+ *            asks for
+ * Any other request is answered 403 and closed, so a page of a foreign site
+ * can't reach the server through its reader's browser. At most 64 browsers wait
+ * for their answer, each for at most 10 seconds; none of them is a viewer yet.
+ * Returns the port, or VNC_ERROR_BAD_ADDRESS, VNC_ERROR_CANNOT_LISTEN or
+ * VNC_ERROR_NO_MEMORY. */
+static inline int32_t vnc_server_listen_web(vnc_server *server,
+                                            const char *address,
+                                            uint16_t port, const char *hosts,
+                                            const char *origins)
+{
+    return vnc_server_listen_web_n(server, (const uint8_t *)address,
+                                   strlen(address), port,
+                                   (const uint8_t *)hosts, strlen(hosts),
+                                   (const uint8_t *)origins, strlen(origins));
+}
+
 /* Does what vnc_server_record does, for a path of so many bytes. */
 int32_t vnc_server_record_n(vnc_server *server,
                             const uint8_t *path, size_t path_count);
@@ -199,8 +254,9 @@ enum vnc_record_state {
 /* Returns whether what is served is recorded: a vnc_record_state. */
 int32_t vnc_server_record_state(const vnc_server *server);
 
-/* Closes all connections, frees the port and all memory, and writes a record to
- * its end (rfbShutdownServer, rfbScreenCleanup). What was not fetched is gone.
+/* Closes all connections, frees its ports and all memory, and writes a record
+ * to its end (rfbShutdownServer, rfbScreenCleanup). What was not fetched is
+ * gone.
  * Returns 0, also for a closed server. */
 int32_t vnc_server_close(vnc_server *server);
 
@@ -505,7 +561,7 @@ int64_t vnc_server_update_from(vnc_server *server, uint32_t left, uint32_t top,
 
 /* ---- What there is ---- */
 
-/* Returns the port on which it listens; 0 where it listens nowhere. */
+/* Returns the port of vnc_server_listen; 0 where the server began without. */
 int32_t vnc_server_port(const vnc_server *server);
 
 /* Returns the picture's columns, and its rows. */

@@ -41,6 +41,7 @@ enum vnc_code {
     VNC_ERROR_BAD_SOCKET = -22,     /* no socket that is connected: see errno */
     VNC_ERROR_FULL = -23,           /* as many viewers as may be connected */
     VNC_ERROR_CANNOT_ADOPT = -24,   /* the system refused it: see errno */
+    VNC_ERROR_TOO_MANY_PORTS = -25, /* it listens on eight already */
     VNC_ERROR_CLOSED = -32          /* the screen, or the server, is closed */
 };
 
@@ -72,6 +73,7 @@ static inline const char *vnc_code_text(int32_t code)
     case VNC_ERROR_BAD_SOCKET: return "not a socket that is connected";
     case VNC_ERROR_FULL: return "too many viewers";
     case VNC_ERROR_CANNOT_ADOPT: return "the connection can't be taken in";
+    case VNC_ERROR_TOO_MANY_PORTS: return "it listens on eight ports already";
     case VNC_ERROR_CLOSED: return "closed";
     default: return code < 0 ? "an unknown error" : "done";
     }

@@ -177,12 +177,12 @@ static int says_why(void)
 static int has_texts(void)
 {
     int32_t code, other;
-    for (code = VNC_ERROR_CANNOT_ADOPT; code <= 0; code++) {
+    for (code = VNC_ERROR_TOO_MANY_PORTS; code <= 0; code++) {
         HOLDS(strcmp(vnc_code_text(code), vnc_code_text(VNC_ERROR_CLOSED)) != 0);
-        for (other = VNC_ERROR_CANNOT_ADOPT - 1; other < code; other++) HOLDS(strcmp(vnc_code_text(code), vnc_code_text(other)) != 0);
+        for (other = VNC_ERROR_TOO_MANY_PORTS - 1; other < code; other++) HOLDS(strcmp(vnc_code_text(code), vnc_code_text(other)) != 0);
     }
     IS(strcmp(vnc_code_text(7), vnc_code_text(0)), 0);
-    IS(strcmp(vnc_code_text(INT32_MIN), vnc_code_text(VNC_ERROR_CANNOT_ADOPT - 1)), 0);
+    IS(strcmp(vnc_code_text(INT32_MIN), vnc_code_text(VNC_ERROR_TOO_MANY_PORTS - 1)), 0);
     return 0;
 }
 

@@ -72,17 +72,20 @@ static inline struct sockaddr_in at_port(const char *address, int port)
     return at;
 }
 
-/* Whether another viewer connects to the server's port of an address, who was there before having left; from another address of the
- * machine's, where one is given. Else errno says why not. */
-static inline int connects_to(int *fd, const char *address, const char *from)
+/* Whether another viewer connects to a port of an address, who was there before having left; from another address of the machine's, where one
+ * is given. Else errno says why not. */
+static inline int connects_at(int *fd, const char *address, int port, const char *from)
 {
-    struct sockaddr_in to = at_port(address, vnc_server_port(s)), own = at_port(from ? from : "0.0.0.0", 0);
+    struct sockaddr_in to = at_port(address, port), own = at_port(from ? from : "0.0.0.0", 0);
     int one = 1;
     leaves(fd);
     *fd = socket(AF_INET, SOCK_STREAM, 0);
     return *fd >= 0 && (!from || bind(*fd, (struct sockaddr *)&own, sizeof own) == 0) && connect(*fd, (struct sockaddr *)&to, sizeof to) == 0 &&
            setsockopt(*fd, IPPROTO_TCP, TCP_NODELAY, &one, sizeof one) == 0;
 }
+
+/* The same with the server's own port. */
+static inline int connects_to(int *fd, const char *address, const char *from) { return connects_at(fd, address, vnc_server_port(s), from); }
 
 static inline int connects(int *fd) { return connects_to(fd, "127.0.0.1", 0); }
 

@@ -14,7 +14,7 @@ use Rattle.connections.specs.Telling.{Told, words_of, inputs_in, inputs_told, wo
 use Rattle.connections.specs.TellingLemmas.{inputs-told-both}
 use Rattle.event_loop.specs.Sockets.{GoesOnServing}
 use Rattle.event_loop.specs.declared.event_loop.LoopError.{LoopError}
-use Rattle.event_loop.specs.declared.event_loop.LoopError.TheVariants.{Network, Clock, Screen}
+use Rattle.event_loop.specs.declared.event_loop.LoopError.TheVariants.{Network, Clock, Screen, TooManyListeners}
 use Rattle.c_screen.specs.Codes.{Answers, code_of, done, out_of_memory}
 use Rattle.c_server.specs.declared.listening.ListenError.{ListenError}
 use Rattle.c_server.specs.declared.listening.ListenError.TheVariants.{Refused, BadAddress, CannotListen, CannotRecord}
@@ -173,6 +173,7 @@ puts-none most old new same = ([], same ∙ (sym (append-nil old) ∙ ap (λ l. 
 done-all : (answer : Result (Unit {0}) LoopError) (P : Type 0) → OnOk answer P → turn_code answer ≡ done → P
 done-all (Ok x) P h is_done = h
 done-all (Err Network) P h is_done = absurd (cc)
+done-all (Err TooManyListeners) P h is_done = absurd (cc)
 done-all (Err Clock) P h is_done = absurd (cc)
 done-all (Err (Screen e)) P h is_done = absurd (never_done e is_done)
 

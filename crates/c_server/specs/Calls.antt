@@ -26,7 +26,7 @@ use Rattle.c_screen.specs.Desk.{IsListOf}
 use Rattle.c_screen.specs.Inputs.{IsFetched}
 use Rattle.c_screen.specs.declared.told.Told.{Told}
 use Rattle.c_server.specs.declared.visits.Visit.{Visit}
-use Rattle.c_server.specs.Codes.{adopt_code, bad_address, bad_socket, cannot_listen, cannot_record, full, network_failed, clock_failed, closed_code, turn_code}
+use Rattle.c_server.specs.Codes.{adopt_code, bad_address, bad_socket, cannot_listen, cannot_record, full, too_many_ports, network_failed, clock_failed, closed_code, turn_code}
 use Rattle.c_server.specs.System.{IsAddress, IsNoAddress, milliseconds_of}
 use Rattle.c_server.specs.Visits.{AreVisits}
 use Rattle.c_server.specs.Gathering.{PutsComing}
@@ -53,6 +53,17 @@ pub record Listens (c : Config) (viewers : ℕ) (digits : List ℕ) (port : ℕ)
   pub full_requests : code ≡ done → new.full_requests ≡ 0
   pub text_room : code ≡ done → new.text_room ≡ texts_limit
   pub refused : code ≢ done → new ≡ old
+
+-- what a server's further listening answers where it isn't closed, by the digits of the address and the port that was asked for: the port, which is that one unless it was 0; or why it doesn't listen
+abbrev pub IsFurtherCode : List ℕ → ℕ → ℤ → Type 0
+IsFurtherCode digits port code =
+    ((granted : ℕ) × (code ≡ pos granted) × IsAddress digits × (port ≢ 0 → granted ≡ port))
+    ⊎ (((code ≡ bad_address) × IsNoAddress digits) ⊎ ((code ≡ cannot_listen) ⊎ ((code ≡ too_many_ports) ⊎ (code ≡ out_of_memory))))
+
+-- a server listens further, or it is refused; what it serves, and to whom, stays
+pub record ListensFurther (digits : List ℕ) (port : ℕ) (old new : Standing) (code : ℤ) : Type 0 where
+  pub answer : MatchOption old.served (code ≡ shut) (λ s. IsFurtherCode digits port code)
+  pub same : new ≡ old
 
 -- what a call of `serve` answers where the screen is none that is refused, by the path of the file in which it was to be recorded: what listens nowhere is not recorded
 abbrev pub IsServeCode : List ℕ → ℤ → Type 0

@@ -32,6 +32,9 @@ pub const FULL: i32 = -23;
 /// The system or memory refused a connection for which there is room.
 pub const CANNOT_ADOPT: i32 = -24;
 
+/// As many ports are listened on as may be.
+pub const TOO_MANY_PORTS: i32 = -25;
+
 /// Returns 0, or why a turn ended.
 pub(crate) fn turn_code(answer: Result<(), LoopError>) -> i32
     ensures { result ≡ code.turn_code answer }
@@ -41,6 +44,19 @@ pub(crate) fn turn_code(answer: Result<(), LoopError>) -> i32
         Err(LoopError::Network) => NETWORK_FAILED,
         Err(LoopError::Clock) => CLOCK_FAILED,
         Err(LoopError::Screen(e)) => code_of(e),
+        Err(LoopError::TooManyListeners) => TOO_MANY_PORTS,
+    }
+}
+
+/// Returns the port on which a loop listens further, or why it doesn't.
+pub(crate) fn further_code(answer: Result<(), LoopError>, port: u16) -> i32
+    ensures { result ≡ code.further_code answer port }
+{
+    match answer {
+        Ok(()) => i32::from(port),
+        Err(LoopError::Screen(e)) => code_of(e),
+        Err(LoopError::TooManyListeners) => TOO_MANY_PORTS,
+        Err(_) => CANNOT_LISTEN,
     }
 }
 
@@ -67,7 +83,7 @@ pub(crate) fn closed_code(answer: Result<bool, AllocError>) -> i32
     }
 }
 
-/// Returns why a viewer left: 1 to 8, in the order of the reasons of `Ended`.
+/// Returns why a viewer left: 1 to 9, in the order of the reasons of `Ended`.
 pub(crate) fn reason_code(ended: Ended) -> u32
     ensures { result ≡ code.reason_code ended }
 {
@@ -80,15 +96,17 @@ pub(crate) fn reason_code(ended: Ended) -> u32
         Ended::Gate => 6,
         Ended::Closed => 7,
         Ended::Stopped => 8,
+        Ended::Frames(_) => 9,
     }
 }
 
-/// Returns the number of the fault that a viewer left for, or 0.
+/// Returns the number of the fault that a viewer left for, the code of the close that a browser was sent for its frames, or 0.
 pub(crate) fn fault_of(ended: Ended) -> i32
     ensures { result ≡ code.fault_of ended }
 {
     match ended {
         Ended::Fault(fault) => fault_code(Some(fault)),
+        Ended::Frames(code) => i32::from(code),
         _ => 0,
     }
 }

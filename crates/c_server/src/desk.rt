@@ -11,15 +11,17 @@ ghost use Rattle.c_screen.specs.Calls.{colour_at, of_viewer};
 ghost use Rattle.c_screen.specs.Desk.{rect_of, config_of, IsListOf};
 ghost use Rattle.std.specs.VecDeque.{deque_capacity};
 ghost use Rattle.c_server.specs.Desk.{fitting, texts_limit, is_named, nothing_there, rects_per_update, region_due};
-ghost use Rattle.c_server.specs.Calls.{Listens, ServesUnbound, Adopts, NamesRecord, record_state, TakesTurn, Draws, DrawsRegion, FetchesInputs, FetchesVisits, ShowsNumbers, ShowsText, ShowsSettings, Tells, TellsAddress, TellsSome, TellsWait, AreDigitsIn, LetsGo, TakesPixels};
+ghost use Rattle.c_server.specs.Calls.{Listens, ListensFurther, ServesUnbound, Adopts, NamesRecord, record_state, TakesTurn, Draws, DrawsRegion, FetchesInputs, FetchesVisits, ShowsNumbers, ShowsText, ShowsSettings, Tells, TellsAddress, TellsSome, TellsWait, AreDigitsIn, LetsGo, TakesPixels};
 ghost use Rattle.std.specs.Net.Text.{ip_text};
 ghost use Rattle.c_screen.specs.Pixels.{format_of, source_from};
 ghost use Rattle.source_pixels.specs.declared.formats.SourceFormat.TheVariants as format;
 
 use crate::adopting::{Silent, stream_of, turn_away};
-use crate::codes::{CLOCK_FAILED, FULL, NETWORK_FAILED, adopt_code, closed_code, turn_code};
+use crate::codes::{
+    CLOCK_FAILED, FULL, NETWORK_FAILED, adopt_code, closed_code, further_code, turn_code,
+};
 use crate::gathering::Gathering;
-use crate::listening::{Address, listen_on, serve_unbound};
+use crate::listening::{Address, bind, let_in, listen_on, serve_unbound};
 use crate::news::{
     MOST_INPUTS, MOST_TEXT, MOST_VISITS, fetch_inputs, fetch_visits, make_room, put_all,
     put_coming, put_inputs,
@@ -245,6 +247,43 @@ impl ServerDesk {
             Ok(made) => {
                 self.begin(made.events, made.port, made.viewers);
                 0
+            }
+            Err(e) => e.code(),
+        }
+    }
+
+    /// Listens on a further port, also where the server listened nowhere: who comes there is a viewer like the others. `address` is as that of
+    /// `listen`. Returns the port, which the system chooses for port 0; or `BAD_ADDRESS`, `CANNOT_LISTEN`, `OutOfMemory`'s code, or
+    /// `TOO_MANY_PORTS` where it listens on eight.
+    pub fn listen_also(&mut self, address: &[u8], port: u16) -> i32
+        ensures { ListensFurther address.now port self.old self.new result }
+    {
+        let Some(events) = &mut self.events else {
+            return SHUT;
+        };
+        let digits = address;
+        match bind(Address { digits, port }) {
+            Ok((listener, port)) => further_code(events.listen(listener), port),
+            Err(e) => e.code(),
+        }
+    }
+
+    /// Listens on a port for browsers, which are viewers over WebSockets (RFC 6455), in place of one on which it listened for them before. A
+    /// browser's request is let in where its Host is `127.0.0.1`, `localhost` or `[::1]`, or one of `hosts`, and where it has no Origin, or
+    /// that of the same host, or one of `origins`: lists with commas in between. Returns the port, or what `listen_also` does.
+    pub fn listen_web(&mut self, address: &[u8], port: u16, hosts: &[u8], origins: &[u8]) -> i32
+        ensures { ListensFurther address.now port self.old self.new result }
+    {
+        let Some(events) = &mut self.events else {
+            return SHUT;
+        };
+        let Ok(let_in) = let_in(self.alloc, hosts, origins) else {
+            return code_of(ScreenError::OutOfMemory);
+        };
+        let digits = address;
+        match bind(Address { digits, port }) {
+            Ok((listener, port)) => {
+                further_code(events.listen_web(self.alloc, listener, let_in), port)
             }
             Err(e) => e.code(),
         }

@@ -28,6 +28,7 @@ pub use c_screen::{
 };
 pub use codes::{
     BAD_ADDRESS, BAD_SOCKET, CANNOT_ADOPT, CANNOT_LISTEN, CLOCK_FAILED, FULL, NETWORK_FAILED,
+    TOO_MANY_PORTS,
 };
 pub use desk::ServerDesk;
 pub use visits::Visit;

@@ -14,12 +14,12 @@ use crate::codes::{BAD_ADDRESS, CANNOT_LISTEN, CANNOT_RECORD, NETWORK_FAILED};
 use crate::system::{Network, address_of};
 use c_screen::code_of;
 use event_loop::{
-    Config, EventLoop, History, Limits, Listed, LoopError, PrivateFile, RecordWriter, ScreenError,
-    WhenFull,
+    Config, EventLoop, History, LetIn, Limits, Listed, LoopError, PrivateFile, RecordWriter,
+    ScreenError, WhenFull,
 };
 use mio::net::TcpListener;
 use screen::{MOST_RECTS, config_refusal};
-use std::alloc::Global;
+use std::alloc::{AllocError, Global};
 
 /// How many copies, and how many rectangles of pixels, an update has at most: what is drawn between two turns seldom takes more, so that
 /// a viewer sees it at once.
@@ -85,7 +85,7 @@ pub(crate) struct Listening {
 }
 
 /// Binds a socket that listens, and returns it with its port: the one that was asked for, or the system's choice.
-fn bind(at: Address<'_>) -> Result<(TcpListener, u16), ListenError>
+pub(crate) fn bind(at: Address<'_>) -> Result<(TcpListener, u16), ListenError>
     ensures port { IfOk result (λ bound. at.entry.port ≢ 0 → bound.1 ≡ at.entry.port) }
     ensures spelled { IfOk result (λ bound. IsAddress at.entry.digits.now) }
     ensures unspelled { IfErr result (λ e. e ≡ ListenError.BadAddress → IsNoAddress at.entry.digits.now) }
@@ -104,6 +104,16 @@ fn bind(at: Address<'_>) -> Result<(TcpListener, u16), ListenError>
         Ok(bound) => Ok((listener, bound.port())),
         Err(_) => Err(ListenError::CannotListen),
     }
+}
+
+/// Returns who is let in besides those that name this machine: hosts and origins, each a list with commas in between.
+pub(crate) fn let_in(alloc: Global, hosts: &[u8], origins: &[u8]) -> Result<LetIn, AllocError>
+    ensures hosts { IfOk result (λ admission. admission.hosts ≡ hosts.now) }
+    ensures origins { IfOk result (λ admission. admission.origins ≡ origins.now) }
+{
+    let hosts = Listed::from_slice(alloc, hosts)?;
+    let origins = Listed::from_slice(alloc, origins)?;
+    Ok(LetIn { hosts, origins })
 }
 
 /// Returns the usual limits, but for so many viewers at once; a further one waits.

@@ -29,7 +29,7 @@ use Rattle.connections.specs.Attending.{Known, next_bytes}
 use Rattle.connections.specs.Counting.{Counts, with_piece, with_cut, counts_of}
 use Rattle.connections.specs.Reasons.{ended_by_read, known_by_read, ended_by_fault}
 use Rattle.connections.specs.declared.connection.Got.{Got}
-use Rattle.connections.specs.declared.connection.Got.TheVariants.{Piece, Nothing, Again, End, Failed}
+use Rattle.connections.specs.declared.connection.Got.TheVariants.{Piece, Nothing, Again, End, Failed, Wrong}
 use Rattle.connections.specs.Serving.{Carried, ViewerConnection, Moves, breaks_off, IsServed}
 use Rattle.connections.specs.Telling.{Word, Told, says, said_by, held_behind, held_of, told_behind, words_after, IsTold}
 use Rattle.connections.specs.Turns.{got_bytes, are_of, Knows, IsTurnFrom, HasRead, HearsPiece, TakesTurn, TakesTurnTelling}
@@ -477,6 +477,7 @@ full_as_known Nothing full now known = refl
 full_as_known Again full now known = refl
 full_as_known End full now known = refl
 full_as_known Failed full now known = refl
+full_as_known (Wrong code) full now known = refl
 
 -- a read that gave no piece
 pub turn-missed : (a : Surface) (e h : ViewerConnection) (got : Got) (full : Bool) (now : ℕ) (room : List ℕ) → ((count : ℕ) → got ≡ Piece count → ⊥) → e.ended ≡ None

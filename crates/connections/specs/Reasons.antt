@@ -1,5 +1,5 @@
 -- What a transport's answers come to: what is known of a connection then, and why its viewer ended.
-use Rattle.std.specs.Prelude.{ℕ, ◌+◌, ◌-◌, ◌*◌, ◌^◌, min, ◌==◌, ◌||◌, Bool, false, if◌then◌else◌, Option, Some, None, Result, Ok, Err}
+use Rattle.std.specs.Prelude.{ℕ, ◌+◌, ◌-◌, ◌*◌, ◌^◌, min, ◌==◌, ◌||◌, Bool, false, if◌then◌else◌, ⊤, Option, Some, None, Result, Ok, Err}
 use Rattle.std.specs.declared.io.Error.{Error}
 use Rattle.std.specs.declared.io.ErrorKind.{ErrorKind}
 use Rattle.std.specs.declared.io.ErrorKind.TheVariants as kinds
@@ -13,21 +13,24 @@ use Rattle.connections.specs.declared.backlog.Written.{Written}
 use Rattle.connections.specs.declared.backlog.Written.TheVariants as outcome
 use Rattle.connections.specs.Attending.{Known}
 
--- what a read is that failed so: nothing is there now, it can be made again at once, or the transport failed
-abbrev pub got_error : ErrorKind → Got
-got_error kinds.WouldBlock = got.Nothing
-got_error kinds.Interrupted = got.Again
-got_error kind = got.Failed
+-- What a read is that failed so: nothing is there now, it can be made again at once, the peer did wrong, which is answered by this code, or
+-- the transport failed.
+abbrev pub got_error : ℕ → ErrorKind → Got
+got_error code kinds.WouldBlock = got.Nothing
+got_error code kinds.Interrupted = got.Again
+got_error code kinds.InvalidData = got.Wrong code
+got_error code kind = got.Failed
 
 -- what a read comes to; one that gives no byte is at the end
-abbrev pub got_of : Result ℕ Error → Got
-got_of (Ok count) = if count == 0 then got.End else got.Piece count
-got_of (Err error) = got_error (error_kind error)
+abbrev pub got_of : ℕ → Result ℕ Error → Got
+got_of code (Ok count) = if count == 0 then got.End else got.Piece count
+got_of code (Err error) = got_error code (error_kind error)
 
 -- why a viewer ended, once a read came to this
 abbrev pub ended_by_read : Got → Option Ended → Option Ended
 ended_by_read got.End before = Some ends.EndOfInput
 ended_by_read got.Failed before = Some ends.ReadFailed
+ended_by_read (got.Wrong code) before = Some (ends.Frames code)
 ended_by_read came before = before
 
 -- how many bytes were said of late, once so many more were said at a time: of each millisecond 64 are forgotten
@@ -56,6 +59,11 @@ taken_by (Err error) = 0
 abbrev pub written_by : Result ℕ Error → Written
 written_by (Ok count) = if count == 0 then outcome.Failed else outcome.Some
 written_by (Err error) = written_error (error_kind error)
+
+-- what a flush comes to
+abbrev pub flushed_by : Result ⊤ Error → Written
+flushed_by (Ok done) = outcome.Some
+flushed_by (Err error) = written_error (error_kind error)
 
 -- why a viewer ended, once a write came to this
 abbrev pub ended_by_write : Written → Option Ended → Option Ended

@@ -5,6 +5,7 @@ ghost use Rattle.connections.specs.Telling.{Told, Said, Left, Stays};
 ghost use Rattle.connections.specs.Drawing.{Draws};
 
 use crate::canvas::Canvas;
+use crate::connections::Readiness;
 use receipts::Receipt;
 use screen::{Input, ScreenError};
 use std::time::Duration;
@@ -70,6 +71,16 @@ pub trait Application {
         ensures stands { Stays stands self.old self.new }
     {
         Ok(())
+    }
+
+    /// Acts once a stream of the program's own, which its loop watches, was found ready. Returns whether more can be done with it at once: then
+    /// this is called in the next turn too, which doesn't wait. Else it is called once the stream becomes ready anew, so it is to be read
+    /// and written until it would wait.
+    fn ready(&mut self, _canvas: &mut Canvas, _found: Readiness) -> Result<bool, ScreenError>
+        ensures draws { Draws _canvas.old _canvas.new }
+        ensures stands { Stays stands self.old self.new }
+    {
+        Ok(false)
     }
 
     /// Returns whether the loop is to end. It is asked before each turn.

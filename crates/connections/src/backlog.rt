@@ -6,7 +6,7 @@ ghost use Rattle.connections.specs.Waiting.{waiting_bytes, IsFew};
 ghost use Rattle.connections.specs.Serving.{Moves};
 ghost use Rattle.connections.specs.Bounds.{AreWrittenAtMost};
 ghost use Rattle.connections.specs.Carrying.{carried_by};
-ghost use Rattle.connections.specs.Reasons.{taken_by, written_by, written_error};
+ghost use Rattle.connections.specs.Reasons.{flushed_by, taken_by, written_by, written_error};
 ghost use Rattle.connections.specs.declared.backlog.Written.TheVariants as outcome;
 
 use crate::recording::Recording;
@@ -91,7 +91,9 @@ fn written_of(sent: io::Result<usize>) -> (usize, Written)
 }
 
 /// Returns what came of a flush.
-pub(crate) fn flushed_of(flushed: io::Result<()>) -> Written {
+pub(crate) fn flushed_of(flushed: io::Result<()>) -> Written
+    ensures { result ≡ flushed_by flushed }
+{
     match flushed {
         Ok(()) => Written::Some,
         Err(error) => written_error(error.kind()),

@@ -7,6 +7,7 @@ ghost use Rattle.connections.specs.Waiting.{waiting_bytes, IsFew};
 ghost use Rattle.connections.specs.Bounds.{AreWrittenAtMost, AreReadAtMost};
 ghost use Rattle.connections.specs.Attending.{noted, floods, says_much};
 ghost use Rattle.connections.specs.Counting.{no_counts, with_piece, with_cut, HasCounts};
+ghost use Rattle.connections.specs.declared.backlog.Written.TheVariants as outcome;
 ghost use Rattle.connections.specs.Reasons.{got_error, got_of, ended_by_read, known_by_read, ended_by_write, may_write_by, ended_by_fault};
 ghost use Rattle.connections.specs.Serving.{Carried, ViewerConnection, Moves, CanKeep, breaks_off, ended_by, may_read, may_write, has_waiting, over, can_send, has_work};
 ghost use Rattle.connections.specs.Recording.{none_yet};
@@ -122,27 +123,30 @@ pub(crate) enum Got {
     End,
     /// The transport failed.
     Failed,
+    /// The peer did what its transport doesn't allow, and is answered by a close with this code (RFC 6455, section 7.4.1).
+    Wrong(u16),
 }
 
-/// Returns what a read is that failed with this kind of error.
-fn got_error(kind: ErrorKind) -> Got
-    ensures { result ≡ got_error kind }
+/// Returns what a read is that failed with this kind of error, where a peer that does wrong is answered by `close_code`.
+fn got_error(kind: ErrorKind, close_code: u16) -> Got
+    ensures { result ≡ got_error close_code kind }
 {
     match kind {
         ErrorKind::WouldBlock => Got::Nothing,
         ErrorKind::Interrupted => Got::Again,
+        ErrorKind::InvalidData => Got::Wrong(close_code),
         _ => Got::Failed,
     }
 }
 
-/// Returns what a read comes to.
-fn got_of(read: io::Result<usize>) -> Got
-    ensures { result ≡ got_of read }
+/// Returns what a read comes to, where a peer that does wrong is answered by `close_code`.
+fn got_of(read: io::Result<usize>, close_code: u16) -> Got
+    ensures { result ≡ got_of close_code read }
 {
     match read {
         Ok(0) => Got::End,
         Ok(count) => Got::Piece(count),
-        Err(error) => got_error(error.kind()),
+        Err(error) => got_error(error.kind(), close_code),
     }
 }
 
@@ -349,6 +353,7 @@ impl<T: Transport> Connection<T> {
             Got::Again => {}
             Got::End => self.ended = Some(Ended::EndOfInput),
             Got::Failed => self.ended = Some(Ended::ReadFailed),
+            Got::Wrong(code) => self.ended = Some(Ended::Frames(code)),
         }
     }
 
@@ -376,7 +381,7 @@ impl<T: Transport> Connection<T> {
     {
         let size = buffer.len();
         let read = self.transport.transport.receive(buffer);
-        let got = got_of(read);
+        let got = got_of(read, self.transport.transport.close_code());
         let is_full = self.is_full(got, size);
         self.take_in(got, is_full, now);
         got
@@ -470,14 +475,17 @@ impl<T: Transport> Connection<T> {
         self.take_note(written);
     }
 
-    /// Has its transport write what it has to say of its own, once. A failure ends it.
+    /// Has its transport write what it has to say of its own, once, and returns what that came to. A failure ends it. A transport that has
+    /// nothing of its own to say ends nobody.
     #[tactic(auto, using(crate::proofs::Turns::moves_kept))]
-    pub fn flush(&mut self)
-        ensures same { self.new ≡ record self.old { carried = self.new.carried; ended = self.new.ended; known = record self.old.known { may_write = self.new.known.may_write } } }
+    pub fn flush(&mut self) -> Written
+        ensures same { self.new ≡ record self.old { carried = self.new.carried; ended = ended_by_write result self.old.ended; known = record self.old.known { may_write = may_write_by result self.old.known.may_write } } }
+        ensures silent { T.speaks ≡ false → result ≡ outcome.Some }
         ensures moved { Moves self.old.carried self.new.carried [] [] }
     {
-        let flushed = self.transport.flush();
-        self.take_note(flushed_of(flushed));
+        let flushed = flushed_of(self.transport.flush());
+        self.take_note(flushed);
+        flushed
     }
 
     /// Takes note of what a write came to: that nothing more can be written now, or that it ended.

@@ -369,6 +369,18 @@ impl<T: Transport> Connections<T> {
         application.woken(&mut self.canvas)
     }
 
+    /// Tells the application that a stream of its own is ready. Returns whether it is to be told in the next turn too.
+    pub fn tell_ready<A: Application>(
+        &mut self,
+        found: Readiness,
+        application: &mut A,
+    ) -> Result<bool, ScreenError>
+        ensures served { GoesOn self.old self.new }
+        ensures stands { Stays A.stands application.old application.new }
+    {
+        application.ready(&mut self.canvas, found)
+    }
+
     /// Returns whether the viewer that has the key had its ServerInit (RFC 6143, 7.3.2), and met no fault.
     pub fn is_open(&self, key: usize) -> bool
         ensures { result ≡ is_open_on self.now.surface.screen (number_at self.now.slots key) }

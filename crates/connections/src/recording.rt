@@ -1,6 +1,6 @@
 //! A transport, and what was written to it, where that is kept.
 
-ghost use Rattle.std.specs.Prelude.{◌≡◌, ◌++◌, ◌≤◌, List, ℕ, Some, None, [], Ok, length, take, option_map, IfOk, OnErr, unwrap_or};
+ghost use Rattle.std.specs.Prelude.{◌≡◌, ◌++◌, ◌≤◌, List, ℕ, Some, None, [], Ok, false, length, take, option_map, IfOk, OnErr, unwrap_or};
 ghost use Rattle.std.specs.Io.{ReadsAtMost};
 ghost use Rattle.std.specs.Io.KnownBytes.{Appends, ReadConsumes, Keeps};
 ghost use Rattle.connections.specs.Recording.{none_yet};
@@ -71,6 +71,7 @@ impl<T: Transport> Recording<T> {
         ensures written { Keeps (T.written self.old.transport) (T.written self.new.transport) }
         ensures unread { Keeps (T.unread self.old.transport) (T.unread self.new.transport) }
         ensures sent { self.new.sent.items ≡ self.old.sent.items }
+        ensures silent { T.speaks ≡ false → result ≡ Ok tt }
     {
         self.transport.flush()
     }

@@ -1,6 +1,6 @@
 //! What carries a viewer's bytes both ways.
 
-ghost use Rattle.std.specs.Prelude.{◌≡◌, ℕ, Bool, false, List, Option, None};
+ghost use Rattle.std.specs.Prelude.{◌≡◌, ℕ, Bool, false, List, Option, None, Ok};
 ghost use Rattle.std.specs.Io.{ReadsAtMost, WritesAtMost};
 ghost use Rattle.std.specs.Io.KnownBytes.{ReadConsumes, WriteAppends, Keeps};
 
@@ -17,6 +17,9 @@ pub trait Transport: Drop {
 
     // Whether it may hold back bytes that came, and give them to a further read. A socket gives what there is room for.
     ghost holds_back: { Bool } = { false };
+
+    // Whether it may have something of its own to say, which a flush writes. A socket has nothing.
+    ghost speaks: { Bool } = { false };
 
     /// Reads as `Read::read` does, and leaves what was written as it is.
     fn receive(&mut self, room: &mut [u8]) -> io::Result<usize>
@@ -37,11 +40,19 @@ pub trait Transport: Drop {
         false
     }
 
-    /// Writes what it has to say of its own, as the answer to a ping (RFC 6455, section 5.5.3), where that cuts nothing of what is sent.
+    /// Returns the code of the close (RFC 6455, section 7.4.1) that answers what its peer did wrong, where that ended it: reads fail as
+    /// `InvalidData` then.
+    fn close_code(&self) -> u16 {
+        1002
+    }
+
+    /// Writes what it has to say of its own, as the answer to a ping (RFC 6455, section 5.5.3), where that cuts nothing of what is sent. Where
+    /// it has nothing of its own to say this doesn't fail.
     #[tactic(auto, using(crate::proofs::Bytes::kept_still))]
     fn flush(&mut self) -> io::Result<()>
         ensures unread { Keeps (unread self.old) (unread self.new) }
         ensures written { Keeps (written self.old) (written self.new) }
+        ensures silent { speaks ≡ false → result ≡ Ok tt }
     {
         Ok(())
     }

@@ -173,7 +173,7 @@ pub(crate) fn send<T: Transport>(
 {
     send_some(canvas, connection, buffer);
     if connection.may_write() {
-        connection.flush();
+        let _flushed = connection.flush();
     }
 }
 

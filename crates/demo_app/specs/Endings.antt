@@ -19,6 +19,7 @@ end_name ended.Memory = codes "Memory"
 end_name ended.Gate = codes "Gate"
 end_name ended.Closed = codes "Closed"
 end_name ended.Stopped = codes "Stopped"
+end_name (ended.Frames code) = codes "Frames"
 
 -- viewer V END
 abbrev pub end_line : Receipt → List ℕ

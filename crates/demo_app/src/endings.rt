@@ -23,6 +23,7 @@ fn end_name(ended: Ended) -> &'static [u8]
         Ended::Gate => b"Gate",
         Ended::Closed => b"Closed",
         Ended::Stopped => b"Stopped",
+        Ended::Frames(_) => b"Frames",
     }
 }
 

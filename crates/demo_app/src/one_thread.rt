@@ -221,7 +221,9 @@ impl<S: Options> Application for Showing<S> {
 /// Returns what is printed of why a loop ended early.
 pub(crate) fn trouble_of(error: LoopError) -> Trouble {
     match error {
-        LoopError::Network | LoopError::Clock => Trouble::NetworkFault,
+        LoopError::Network | LoopError::Clock | LoopError::TooManyListeners => {
+            Trouble::NetworkFault
+        }
         // the application's calls are refused for memory alone
         LoopError::Screen(_) => Trouble::OutOfMemory,
     }

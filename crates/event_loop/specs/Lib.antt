@@ -5,3 +5,6 @@ pub mod Room
 pub mod Admitting
 pub mod Parting
 pub mod Patience
+pub mod Doors
+pub mod Entrance
+pub mod Requests

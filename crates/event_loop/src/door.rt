@@ -1,6 +1,9 @@
 //! A listener.
 
-ghost use Rattle.std.specs.Prelude.{◌≡◌, true};
+ghost use Rattle.std.specs.Prelude.{◌≡◌, ◌⊎◌, ◌-◌, ◌+◌, ◌||◌, true, false, None, IsSome, IfSome, IsSomeAnd, MatchOption};
+ghost use Rattle.std.specs.Duration.{as_nanos};
+ghost use Rattle.std.specs.Time.{instant_nanos};
+ghost use Rattle.event_loop.specs.Doors.{asked_again};
 
 use mio::net::{TcpListener, TcpStream};
 use std::io::ErrorKind;
@@ -13,6 +16,8 @@ const RETRY: u64 = 100;
 #[derive(Drop)]
 pub(crate) struct Door {
     listener: TcpListener,
+    // which one it is of those for viewers
+    number: usize,
     // a connection may wait
     may_accept: bool,
     // the system had no room for one, and is asked again then
@@ -20,15 +25,23 @@ pub(crate) struct Door {
 }
 
 impl Door {
-    /// Returns a listener at which a connection may wait.
-    pub fn new(listener: TcpListener) -> Door
-        ensures { result.may_accept ≡ true }
+    /// Returns a listener at which a connection may wait, with a number.
+    pub fn new(listener: TcpListener, number: usize) -> Door
+        ensures { result ≡ record { listener = listener; number = number; may_accept = true; retry = None } }
     {
         Door {
             listener,
+            number,
             may_accept: true,
             retry: None,
         }
+    }
+
+    /// Returns its number.
+    pub fn number(&self) -> usize
+        ensures { result ≡ self.now.number }
+    {
+        self.number
     }
 
     /// Returns whether a connection may wait.
@@ -40,27 +53,41 @@ impl Door {
 
     /// Notes that a connection may wait, where it is so.
     pub fn note(&mut self, may_accept: bool)
-        ensures { may_accept ≡ true → self.new.may_accept ≡ true }
+        ensures { self.new ≡ record self.old { may_accept = self.old.may_accept || may_accept } }
     {
         self.may_accept |= may_accept;
     }
 
     /// Asks the listener again, where the time for this has come.
-    pub fn retry(&mut self, now: Instant) {
-        if self.retry.is_some_and(|then| then <= now) {
+    pub fn retry(&mut self, now: Instant)
+        ensures { self.new ≡ asked_again (instant_nanos now) self.old }
+    {
+        let Some(then) = self.retry else {
+            return;
+        };
+        if now.checked_duration_since(then).is_some() {
             self.retry = None;
             self.may_accept = true;
         }
     }
 
     /// Returns after how long it is asked again; None where nothing is wanted of the system.
-    pub fn retry_after(&self, now: Instant) -> Option<Duration> {
-        self.retry.map(|then| then.duration_since(now))
+    pub fn retry_after(&self, now: Instant) -> Option<Duration>
+        ensures { MatchOption self.now.retry (result ≡ None) (λ time. IsSomeAnd result (λ wait.
+            as_nanos wait ≡ instant_nanos time - instant_nanos now)) }
+    {
+        let then = self.retry?;
+        Some(then.duration_since(now))
     }
 
     /// Returns a connection that waited. None where none waits, and where the system has no room for one: then it is asked again a little
     /// later.
-    pub fn next_stream(&mut self, now: Instant) -> Option<TcpStream> {
+    pub fn next_stream(&mut self, now: Instant) -> Option<TcpStream>
+        ensures closed { self.old.may_accept ≡ false → result ≡ None }
+        ensures some { IsSome result → self.new ≡ self.old }
+        ensures none { (self.new ≡ self.old) ⊎ (self.new ≡ record self.old { may_accept = false; retry = self.new.retry }) }
+        ensures retry { (self.new.retry ≡ self.old.retry) ⊎ IfSome self.new.retry (λ time. instant_nanos time ≡ instant_nanos now + 100_000_000) }
+    {
         if !self.may_accept {
             return None;
         }

@@ -1,109 +1,117 @@
-//! Where connections come in: a listener for viewers, and one for browsers, whose requests are answered before they are viewers.
+//! Where connections come in: listeners for viewers, and one for browsers, whose requests are answered before they are viewers.
+
+ghost use Rattle.std.specs.Prelude.{◌≡◌, ◌<◌, ◌≤◌, ◌-◌, ◌||◌, [], None, Some, Err, true, map, All, length, OnErr, IfErr, IfSome, IsSomeAnd, slice_get};
+ghost use Rattle.event_loop.specs.declared.event_loop.LoopError.TheVariants as error;
+ghost use Rattle.std.specs.Duration.{as_nanos};
+ghost use Rattle.std.specs.Time.{instant_nanos};
+ghost use Rattle.event_loop.specs.Doors.{IsAskedBy, IsUnreachable, asked_again, noted, noted_at};
+ghost use Rattle.event_loop.specs.Entrance.{may_accept_browser, may_accept_viewer, is_due, goes_on};
 
 use crate::browsers::Browsers;
-use crate::door::Door;
+use crate::doors::Doors;
+use crate::event_loop::LoopError;
 use crate::poller::Poller;
+use crate::shorter::shorter;
 use crate::socket::Peer;
 use mio::net::{TcpListener, TcpStream};
+use std::alloc::Global;
 use std::time::{Duration, Instant};
 
-/// What was found at a wait, besides sockets of viewers.
-#[derive(Clone, Copy)]
-pub(crate) struct Noted {
-    /// A connection waits at the listener for viewers.
-    pub has_viewer: bool,
-    /// One waits at that for browsers.
-    pub has_browser: bool,
-    /// More came of a request.
-    pub has_request: bool,
-    /// Another thread woke the loop.
-    pub is_woken: bool,
-}
-
-impl Noted {
-    /// Returns that nothing was found.
-    pub fn nothing() -> Noted {
-        Noted {
-            has_viewer: false,
-            has_browser: false,
-            has_request: false,
-            is_woken: false,
-        }
-    }
-}
-
-/// Returns the shorter of two times, where each may be without end.
-pub(crate) fn shorter(one: Option<Duration>, other: Option<Duration>) -> Option<Duration> {
-    match (one, other) {
-        (Some(one), Some(other)) => Some(one.min(other)),
-        (Some(one), None) => Some(one),
-        (None, other) => other,
-    }
-}
-
-/// The listeners of a loop, each of a kind, and the requests of browsers.
+/// The listeners of a loop, each of a kind, and browsers that are no viewers.
 #[derive(Drop)]
 pub(crate) struct Entrance {
-    viewers: Option<Door>,
+    viewers: Doors,
     browsers: Option<Browsers>,
 }
 
 impl Entrance {
-    /// Returns a listener for viewers, or none, and none for browsers.
-    pub fn new(listener: Option<TcpListener>) -> Entrance {
+    /// Returns one without a listener.
+    pub fn new(alloc: Global) -> Entrance
+        ensures viewers { result.viewers.doors.items ≡ [] }
+        ensures browsers { result.browsers ≡ None }
+    {
         Entrance {
-            viewers: match listener {
-                Some(listener) => Some(Door::new(listener)),
-                None => None,
-            },
+            viewers: Doors::new(alloc),
             browsers: None,
         }
     }
 
+    /// Adds a listener for viewers, as `Doors::open` does.
+    pub fn listen(&mut self, poller: &Poller, listener: TcpListener) -> Result<(), LoopError>
+        ensures full { 8 ≤ length self.old.viewers.doors.items → result ≡ Err error.TooManyListeners }
+        ensures room { length self.old.viewers.doors.items < 8 → IfErr result IsUnreachable }
+        ensures err { OnErr result (self.new.viewers.doors.items ≡ self.old.viewers.doors.items) }
+        ensures browsers { self.new.browsers ≡ self.old.browsers }
+    {
+        self.viewers.open(poller, listener)
+    }
+
     /// Lets browsers in from now on, in place of those that came by an earlier listener and whose requests are not answered.
-    pub fn open(&mut self, browsers: Browsers) {
+    pub fn open(&mut self, browsers: Browsers)
+        ensures { self.new ≡ record self.old { browsers = Some browsers } }
+    {
         self.browsers = Some(browsers);
     }
 
-    /// Notes what was found.
-    pub fn note(&mut self, noted: Noted) {
-        if let Some(door) = &mut self.viewers {
-            door.note(noted.has_viewer);
-        }
+    /// Begins a turn, as `Browsers::begin_turn` does.
+    pub fn begin_turn(&mut self)
+        ensures viewers { self.new.viewers ≡ self.old.viewers }
+    {
         if let Some(browsers) = &mut self.browsers {
-            browsers.door.note(noted.has_browser);
-            browsers.note(noted.has_request);
+            browsers.begin_turn();
+        }
+    }
+
+    /// Notes that a connection waits at the listener for viewers with this number.
+    pub fn note_viewer(&mut self, number: usize)
+        ensures viewers { self.new.viewers.doors.items ≡ map (noted_at number) self.old.viewers.doors.items }
+        ensures browsers { self.new.browsers ≡ self.old.browsers }
+    {
+        self.viewers.note(number);
+    }
+
+    /// Notes that one waits at the listener for browsers.
+    pub fn note_browser(&mut self)
+        ensures noted { IfSome self.new.browsers (λ browsers. browsers.door.may_accept ≡ true) }
+        ensures viewers { self.new.viewers ≡ self.old.viewers }
+    {
+        if let Some(browsers) = &mut self.browsers {
+            browsers.door.note(true);
+        }
+    }
+
+    /// Notes that more came of a request.
+    pub fn note_request(&mut self)
+        ensures viewers { self.new.viewers ≡ self.old.viewers }
+    {
+        if let Some(browsers) = &mut self.browsers {
+            browsers.note();
         }
     }
 
     /// Notes that a viewer left: the system may have room for a connection.
-    pub fn note_left(&mut self) {
-        let mut noted = Noted::nothing();
-        noted.has_viewer = true;
-        noted.has_browser = true;
-        self.note(noted);
+    pub fn note_left(&mut self)
+        ensures viewers { self.new.viewers.doors.items ≡ map noted self.old.viewers.doors.items }
+        ensures browsers { IfSome self.new.browsers (λ browsers. browsers.door.may_accept ≡ true) }
+    {
+        self.viewers.note_all();
+        self.note_browser();
     }
 
     /// Asks the listeners again, where the time for this has come.
-    pub fn retry(&mut self, now: Instant) {
-        if let Some(door) = &mut self.viewers {
-            door.retry(now);
-        }
+    pub fn retry(&mut self, now: Instant)
+        ensures viewers { self.new.viewers.doors.items ≡ map (asked_again (instant_nanos now)) self.old.viewers.doors.items }
+    {
+        self.viewers.retry(now);
         if let Some(browsers) = &mut self.browsers {
             browsers.door.retry(now);
         }
     }
 
-    /// Returns whether a viewer's connection may wait.
-    fn may_accept_viewer(&self) -> bool {
-        match &self.viewers {
-            Some(door) => door.may_accept(),
-            None => false,
-        }
-    }
-
     /// Returns whether a browser's connection may wait.
-    fn may_accept_browser(&self) -> bool {
+    fn may_accept_browser(&self) -> bool
+        ensures { result ≡ may_accept_browser self.now.browsers }
+    {
         match &self.browsers {
             Some(browsers) => browsers.door.may_accept(),
             None => false,
@@ -111,35 +119,53 @@ impl Entrance {
     }
 
     /// Returns whether a connection may wait.
-    pub fn may_accept(&self) -> bool {
-        self.may_accept_viewer() || self.may_accept_browser()
+    pub fn may_accept(&self) -> bool
+        ensures { result ≡ (may_accept_viewer self.now.viewers || may_accept_browser self.now.browsers) }
+    {
+        self.viewers.may_accept() || self.may_accept_browser()
     }
 
-    /// Returns the connection of a viewer that waited, as `Door::next_stream` does.
-    pub fn next_stream(&mut self, now: Instant) -> Option<TcpStream> {
-        match &mut self.viewers {
-            Some(door) => door.next_stream(now),
-            None => None,
-        }
+    /// Returns the connection of a viewer that waited, as `Doors::next_stream` does.
+    pub fn next_stream(&mut self, now: Instant) -> Option<TcpStream>
+        ensures count { length self.new.viewers.doors.items ≡ length self.old.viewers.doors.items }
+        ensures browsers { self.new.browsers ≡ self.old.browsers }
+    {
+        self.viewers.next_stream(now)
     }
 
     /// Accepts the connection of a browser, if one waits.
-    pub fn accept_browser(&mut self, poller: &Poller, now: Instant) {
+    pub fn accept_browser(&mut self, poller: &Poller, now: Instant)
+        ensures viewers { self.new.viewers ≡ self.old.viewers }
+    {
         if let Some(browsers) = &mut self.browsers {
             browsers.accept(poller, now);
         }
     }
 
-    /// Returns whether more may have come of a request.
-    pub fn is_due(&self) -> bool {
+    /// Returns whether more may have come of a request, in this turn.
+    pub fn is_due(&self) -> bool
+        ensures { result ≡ is_due self.now.browsers }
+    {
         match &self.browsers {
             Some(browsers) => browsers.is_due(),
             None => false,
         }
     }
 
+    /// Returns whether more may be read of a request at once, in the next turn.
+    pub fn goes_on(&self) -> bool
+        ensures { result ≡ goes_on self.now.browsers }
+    {
+        match &self.browsers {
+            Some(browsers) => browsers.goes_on(),
+            None => false,
+        }
+    }
+
     /// Goes on with a request, and returns the viewer's socket once it is accepted.
-    pub fn go_on(&mut self, poller: &Poller) -> Option<Peer> {
+    pub fn go_on(&mut self, poller: &Poller) -> Option<Peer>
+        ensures viewers { self.new.viewers ≡ self.old.viewers }
+    {
         match &mut self.browsers {
             Some(browsers) => browsers.go_on(poller),
             None => None,
@@ -147,18 +173,24 @@ impl Entrance {
     }
 
     /// Lets browsers go whose time is up.
-    pub fn let_go(&mut self, now: Instant) {
+    pub fn let_go(&mut self, now: Instant)
+        ensures in_time { IfSome self.new.browsers (λ browsers. IfSome (slice_get browsers.waiting.items 0) (λ first.
+            instant_nanos now - instant_nanos first.since < as_nanos browsers.patience)) }
+        ensures viewers { self.new.viewers ≡ self.old.viewers }
+    {
         if let Some(browsers) = &mut self.browsers {
             browsers.let_go(now);
         }
     }
 
     /// Returns after how long a listener is asked again at the first, or a browser's time is up.
-    pub fn next_after(&self, now: Instant) -> Option<Duration> {
-        let retry = match &self.viewers {
-            Some(door) => door.retry_after(now),
-            None => None,
-        };
+    pub fn next_after(&self, now: Instant) -> Option<Duration>
+        ensures viewers { All (IsAskedBy (instant_nanos now) result) self.now.viewers.doors.items }
+        ensures door { IfSome self.now.browsers (λ browsers. IsAskedBy (instant_nanos now) result browsers.door) }
+        ensures browser { IfSome self.now.browsers (λ browsers. IfSome (slice_get browsers.waiting.items 0) (λ first. IsSomeAnd result (λ wait.
+            as_nanos wait ≤ as_nanos browsers.patience - (instant_nanos now - instant_nanos first.since)))) }
+    {
+        let retry = self.viewers.retry_after(now);
         match &self.browsers {
             Some(browsers) => {
                 let own = shorter(browsers.door.retry_after(now), browsers.next_after(now));

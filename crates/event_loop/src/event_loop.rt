@@ -12,17 +12,21 @@ ghost use Rattle.record_writer.specs.Held.{bytes_held};
 ghost use Rattle.event_loop.specs.Lending.{lends_canvas};
 ghost use Rattle.event_loop.specs.declared.event_loop.LoopError.TheVariants as error;
 ghost use Rattle.event_loop.specs.Sockets.{sockets, sockets_and, GoesOnServing, GoesOnServingTelling};
+ghost use Rattle.event_loop.specs.Doors.{IsListenRefusal, IsUnreachable};
 ghost use Rattle.event_loop.specs.Opening.{IsOpenedOr};
 ghost use Rattle.event_loop.specs.Admitting.{IsAdmittedOr};
 ghost use Rattle.event_loop.specs.Parting.{IsLetGo};
 
 use crate::browsers::{Browsers, WAITING};
-use crate::entrance::{Entrance, Noted, shorter};
+use crate::entrance::Entrance;
 use crate::limits::Limits;
 use crate::poller::{Found, Poller, found_in};
+use crate::shorter::shorter;
 use crate::socket::Peer;
 use crate::viewers::{Admission, Viewers};
-use connections::{Application, Canvas, Config, Connections, RecordWriter, Screen, ScreenError};
+use connections::{
+    Application, Canvas, Config, Connections, Readiness, RecordWriter, Screen, ScreenError,
+};
 use mio::Waker;
 use mio::event::Event;
 use mio::net::{TcpListener, TcpStream};
@@ -37,7 +41,7 @@ use web_opening::Admission as LetIn;
 /// How many connections are accepted in one turn, at most.
 const ACCEPTED: u32 = 32;
 
-/// Why a loop ended.
+/// Why a loop ended, or didn't listen.
 #[derive(Clone, Copy, Debug, PartialEq, Eq)]
 pub enum LoopError {
     /// The poller failed.
@@ -46,6 +50,8 @@ pub enum LoopError {
     Clock,
     /// The application's call of the screen was refused, or memory was.
     Screen(ScreenError),
+    /// Eight listeners for viewers are there already.
+    TooManyListeners,
 }
 
 impl From<ScreenError> for LoopError {
@@ -69,6 +75,8 @@ pub struct EventLoop {
     began: Option<Instant>,
     // another thread woke the loop
     is_woken: bool,
+    // what the program's own stream was found ready for, until the application did all that it can with it
+    watched: Option<Readiness>,
     // when the application's time comes, once it was told that it has
     has_ticked: bool,
     next_tick: Option<Instant>,
@@ -83,6 +91,7 @@ impl Drop for EventLoop {
             viewers: _viewers,
             began: _began,
             is_woken: _is_woken,
+            watched: _watched,
             has_ticked: _has_ticked,
             next_tick: _next_tick,
         } = self;
@@ -97,52 +106,78 @@ impl Model for EventLoop {
     ghost view = { λ a. a.viewers.connections };
 }
 
-/// Records one event of the poller.
+/// What the poller found that is the application's.
+#[derive(Clone, Copy)]
+struct Noted {
+    /// Another thread woke the loop.
+    is_woken: bool,
+    /// What the program's own stream is ready for.
+    watched: Option<Readiness>,
+}
+
+/// Records one event of the poller; in `noted` what is the application's.
 fn note(
     event: &Event,
     connections: &mut Connections<Peer>,
+    entrance: &mut Entrance,
     noted: &mut Noted,
 ) -> Result<(), AllocError>
     ensures served { GoesOnServing connections.old connections.new }
 {
     match found_in(event) {
-        Found::Listener => noted.has_viewer = true,
-        Found::WebListener => noted.has_browser = true,
-        Found::Request => noted.has_request = true,
+        Found::Listener(number) => entrance.note_viewer(number),
+        Found::WebListener => entrance.note_browser(),
+        Found::Request => entrance.note_request(),
         Found::Woken => noted.is_woken = true,
-        Found::Connection(key, readiness) => return connections.note(key, readiness),
+        Found::Watched(readiness) => noted.watched = Some(readiness),
+        Found::Connection(key, readiness) => connections.note(key, readiness)?,
     }
     Ok(())
 }
 
-/// Records what the poller found.
-fn note_found(poller: &Poller, connections: &mut Connections<Peer>) -> Result<Noted, AllocError>
+/// Records what the poller found. Returns what of it is the application's.
+fn note_found(
+    poller: &Poller,
+    connections: &mut Connections<Peer>,
+    entrance: &mut Entrance,
+) -> Result<Noted, AllocError>
     ensures served { GoesOnServing connections.old connections.new }
 {
-    let mut noted = Noted::nothing();
+    let mut noted = Noted {
+        is_woken: false,
+        watched: None,
+    };
     for event in poller.events() {
-        note(event, connections, &mut noted)?;
+        note(event, connections, entrance, &mut noted)?;
     }
     Ok(noted)
 }
 
-/// Returns a poller, which reports what waits at a listener, where there is one.
-fn poller_of<R: Net>(
-    rt: &R,
+/// Returns where connections come in: at a listener, if there is one, of which the poller reports what waits there.
+fn entrance_of(
     alloc: Global,
-    listener: &mut Option<TcpListener>,
-) -> Result<Poller, LoopError>
-    ensures { IfErr result (λ e. e ≡ error.Network) }
+    poller: &Poller,
+    listener: Option<TcpListener>,
+) -> Result<Entrance, LoopError>
+    ensures { IfErr result IsUnreachable }
 {
-    let Ok(poller) = Poller::new(rt, alloc) else {
-        return Err(LoopError::Network);
-    };
-    if let Some(listener) = listener
-        && poller.add_listener(listener).is_err()
-    {
-        return Err(LoopError::Network);
+    let mut entrance = Entrance::new(alloc);
+    if let Some(listener) = listener {
+        entrance.listen(poller, listener)?;
     }
-    Ok(poller)
+    Ok(entrance)
+}
+
+/// Returns what was found before, and what was found now.
+fn both(before: Option<Readiness>, now: Option<Readiness>) -> Option<Readiness> {
+    let (Some(one), Some(other)) = (before, now) else {
+        return before.or(now);
+    };
+    Some(Readiness {
+        may_read: one.may_read || other.may_read,
+        may_write: one.may_write || other.may_write,
+        is_hung_up: one.is_hung_up || other.is_hung_up,
+    })
 }
 
 /// Takes leave of a peer, and closes its connection.
@@ -216,23 +251,37 @@ impl EventLoop {
     fn of<R: Net>(
         rt: &R,
         alloc: Global,
-        mut listener: Option<TcpListener>,
+        listener: Option<TcpListener>,
         connections: Connections<Peer>,
         limits: Limits,
     ) -> Result<EventLoop, LoopError>
         ensures opened { IsOpenedOr result }
         ensures same { IfOk result (λ served. served ≡ connections) }
     {
-        let poller = poller_of(rt, alloc, &mut listener)?;
+        let Ok(poller) = Poller::new(rt, alloc) else {
+            return Err(LoopError::Network);
+        };
+        let entrance = entrance_of(alloc, &poller, listener)?;
         Ok(EventLoop {
             poller,
-            entrance: Entrance::new(listener),
+            entrance,
             viewers: Viewers::new(alloc, connections, limits),
             began: None,
             is_woken: false,
+            watched: None,
             has_ticked: false,
             next_tick: None,
         })
+    }
+
+    /// Listens for viewers at one more listener, with the same limits; also where the loop listened nowhere. Connections are accepted from the
+    /// listeners in turn. `TooManyListeners` where eight listen, `Network` where the poller is refused, and `Screen` for want of memory: then
+    /// nothing has changed.
+    pub fn listen(&mut self, listener: TcpListener) -> Result<(), LoopError>
+        ensures same { self.new ≡ self.old }
+        ensures refused { IfErr result IsListenRefusal }
+    {
+        self.entrance.listen(&self.poller, listener)
     }
 
     /// Lets browsers in from now on that come by a listener of their own and are viewers over WebSockets (RFC 6455), with the same limits.
@@ -316,6 +365,15 @@ impl EventLoop {
     /// Returns what ends a wait from another thread: the application is told that it was woken. One loop has one waker.
     pub fn waker(&self) -> io::Result<Waker> {
         self.poller.waker()
+    }
+
+    /// Watches a stream of the program's own from now on, in place of an earlier one: the application is told where it is ready, by
+    /// `Application::ready`. The program keeps the stream, and ends the watch by dropping it. Fails where the poller does.
+    pub fn watch(&mut self, stream: &mut TcpStream) -> io::Result<()>
+        ensures same { self.new ≡ self.old }
+    {
+        self.watched = None;
+        self.poller.watch(stream)
     }
 
     /// Lets a viewer go, as one that the application refused (`rfbCloseClient` of `rfb.h`, and `RFB_CLIENT_REFUSE`): it is heard no more,
@@ -441,7 +499,7 @@ impl EventLoop {
 
     /// Returns how long a turn may wait.
     fn wait_for(&self, now: Instant, timeout: Option<Duration>) -> Option<Duration> {
-        if !self.has_ticked || self.accepts() {
+        if !self.has_ticked || self.accepts() || self.entrance.goes_on() || self.watched.is_some() {
             return Some(Duration::ZERO);
         }
         let until = |then: Instant| then.duration_since(now);
@@ -463,13 +521,18 @@ impl EventLoop {
         if self.poller.wait(wait).is_err() {
             return Err(LoopError::Network);
         }
-        let noted = note_found(&self.poller, &mut self.viewers.connections)?;
-        self.entrance.note(noted);
+        self.entrance.begin_turn();
+        let noted = note_found(
+            &self.poller,
+            &mut self.viewers.connections,
+            &mut self.entrance,
+        )?;
         self.is_woken = noted.is_woken;
+        self.watched = both(self.watched, noted.watched);
         now_by(clock)
     }
 
-    /// Tells the application that it was woken, and that its time has come, where this is so.
+    /// Tells the application that it was woken, that its own stream is ready, and that its time has come, where this is so.
     fn tell_time<A: Application>(
         &mut self,
         now: Instant,
@@ -479,6 +542,7 @@ impl EventLoop {
         ensures stands { Stays A.stands application.old application.new }
     {
         self.tell_woken(application)?;
+        self.tell_ready(application)?;
         self.tick(now, application)
     }
 
@@ -526,6 +590,19 @@ impl EventLoop {
             return Ok(());
         }
         self.viewers.connections.tell_woken(application)?;
+        Ok(())
+    }
+
+    /// Tells the application that its own stream is ready, where it is, or where more could be done with it.
+    fn tell_ready<A: Application>(&mut self, application: &mut A) -> Result<(), LoopError>
+        ensures served { GoesOnServing self.old self.new }
+        ensures stands { Stays A.stands application.old application.new }
+    {
+        let Some(found) = self.watched else {
+            return Ok(());
+        };
+        let has_more = self.viewers.connections.tell_ready(found, application)?;
+        self.watched = has_more.then_some(found);
         Ok(())
     }
 
@@ -588,7 +665,7 @@ impl EventLoop {
         self.entrance.accept_browser(&self.poller, now);
     }
 
-    /// Returns a connection that waited at the listener for viewers. None where none waits, and where the system has no room for one: then
+    /// Returns a connection that waited at a listener for viewers. None where none waits, and where the system has no room for one: then
     /// it is asked again a little later.
     fn next_stream(&mut self, now: Instant) -> Option<TcpStream>
         ensures same { self.new ≡ self.old }

@@ -10,8 +10,9 @@
 //! served.run(rt, &mut application)?;
 //! ```
 //!
-//! A loop without a listener is made by `EventLoop::unbound`, and any loop takes in connections that the program has by
-//! `EventLoop::adopt`. `EventLoop::listen_web` lets browsers in by a listener of their own, over WebSockets (RFC 6455).
+//! A loop without a listener is made by `EventLoop::unbound`. Any loop listens further by `EventLoop::listen`, and takes in connections
+//! that the program has by `EventLoop::adopt`. `EventLoop::listen_web` lets browsers in by a listener of their own, over WebSockets
+//! (RFC 6455). `EventLoop::watch` has the application told where a stream of the program's own is ready.
 //!
 //! What a viewer is sent is what its stream is written, whatever stream that is, and nothing else; no clause says what a socket delivers,
 //! or when: tests over loopback show it.
@@ -19,18 +20,20 @@
 
 mod browsers;
 mod door;
+mod doors;
 mod entrance;
 mod event_loop;
 mod limits;
 mod opening;
 mod poller;
 mod request;
+mod shorter;
 mod socket;
 mod viewers;
 
 pub use connections::{
-    Application, Canvas, Config, Ended, Fault, History, Input, Listed, PrivateFile, Receipt,
-    RecordWriter, Rect, Region, Screen, ScreenError, drawn_is_served,
+    Application, Canvas, Config, Ended, Fault, History, Input, Listed, PrivateFile, Readiness,
+    Receipt, RecordWriter, Rect, Region, Screen, ScreenError, drawn_is_served,
 };
 pub use event_loop::{EventLoop, LoopError};
 pub use limits::{Limits, WhenFull};

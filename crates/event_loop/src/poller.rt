@@ -1,8 +1,10 @@
 //! Which sockets are ready.
 
+ghost use Rattle.std.specs.Prelude.{◌≡◌, ◌<◌};
+
 use connections::Readiness;
 use mio::event::Event;
-use mio::net::TcpListener;
+use mio::net::{TcpListener, TcpStream};
 use mio::unix::SourceFd;
 use mio::{Events, Interest, Poll, Token, Waker};
 use std::alloc::Global;
@@ -14,17 +16,23 @@ use std::time::Duration;
 /// How many sockets are reported at once, at most.
 const EVENTS: usize = 256;
 
-/// The token of the listener for viewers. Connections have keys of a slab, which are smaller.
-const LISTENER: Token = Token(usize::MAX);
+/// How many listeners for viewers there are, at most.
+pub(crate) const MOST_LISTENERS: usize = 8;
+
+/// The token of the first listener for viewers; those of the others follow. Connections have keys of a slab, which are smaller.
+const LISTENERS: usize = usize::MAX - 7;
 
 /// The token of what other threads wake.
-const WAKER: Token = Token(usize::MAX - 1);
+const WAKER: Token = Token(usize::MAX - 8);
 
 /// The token of the listener for browsers.
-const WEB_LISTENER: Token = Token(usize::MAX - 2);
+const WEB_LISTENER: Token = Token(usize::MAX - 9);
 
-/// The token of all connections whose requests are not answered.
-const REQUEST: Token = Token(usize::MAX - 3);
+/// The token of all browsers that are no viewers.
+const REQUEST: Token = Token(usize::MAX - 10);
+
+/// The token of a stream of the program's own.
+const WATCHED: Token = Token(usize::MAX - 11);
 
 /// Waits until sockets are ready. Each is reported once when it becomes so, and not again before it was found unready.
 #[derive(Drop)]
@@ -36,14 +44,16 @@ pub(crate) struct Poller {
 /// What an event says. It may be out of date.
 #[derive(Clone, Copy)]
 pub(crate) enum Found {
-    /// A connection waits.
-    Listener,
+    /// A connection waits at the listener for viewers with this number.
+    Listener(usize),
     /// A browser's connection waits.
     WebListener,
     /// More came of a request.
     Request,
     /// Another thread woke the loop.
     Woken,
+    /// The program's own stream is ready.
+    Watched(Readiness),
     /// The connection with this key is ready.
     Connection(usize, Readiness),
 }
@@ -57,11 +67,14 @@ impl Poller {
         })
     }
 
-    /// Reports from now on that a connection waits at the listener.
-    pub fn add_listener(&self, listener: &mut TcpListener) -> io::Result<()> {
+    /// Reports from now on that a connection waits at the listener for viewers with this number.
+    pub fn add_listener(&self, listener: &mut TcpListener, number: usize) -> io::Result<()>
+        requires { number < 8 }
+        ensures { listener.new ≡ listener.old }
+    {
         self.poll
             .registry()
-            .register(listener, LISTENER, Interest::READABLE)
+            .register(listener, Token(LISTENERS + number), Interest::READABLE)
     }
 
     /// Reports from now on that a connection waits at the listener for browsers.
@@ -94,6 +107,12 @@ impl Poller {
             .register(&mut SourceFd(&descriptor), Token(key), both)
     }
 
+    /// Reports from now on what a stream of the program's own is ready for.
+    pub fn watch(&self, stream: &mut TcpStream) -> io::Result<()> {
+        let both = Interest::READABLE | Interest::WRITABLE;
+        self.poll.registry().register(stream, WATCHED, both)
+    }
+
     /// Returns what ends a wait from another thread.
     pub fn waker(&self) -> io::Result<Waker> {
         Waker::new(self.poll.registry(), WAKER)
@@ -117,8 +136,9 @@ impl Poller {
 
 /// Returns what an event says.
 pub(crate) fn found_in(event: &Event) -> Found {
-    if event.token() == LISTENER {
-        return Found::Listener;
+    let token = event.token().0;
+    if token >= LISTENERS {
+        return Found::Listener(token - LISTENERS);
     }
     if event.token() == WAKER {
         return Found::Woken;
@@ -130,12 +150,13 @@ pub(crate) fn found_in(event: &Event) -> Found {
         return Found::Request;
     }
     let is_hung_up = event.is_read_closed() || event.is_error();
-    Found::Connection(
-        event.token().0,
-        Readiness {
-            may_read: event.is_readable() || is_hung_up,
-            may_write: event.is_writable() || event.is_write_closed(),
-            is_hung_up,
-        },
-    )
+    let readiness = Readiness {
+        may_read: event.is_readable() || is_hung_up,
+        may_write: event.is_writable() || event.is_write_closed(),
+        is_hung_up,
+    };
+    if event.token() == WATCHED {
+        return Found::Watched(readiness);
+    }
+    Found::Connection(token, readiness)
 }

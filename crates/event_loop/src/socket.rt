@@ -1,7 +1,7 @@
 //! A viewer's socket.
 
-ghost use Rattle.std.specs.Prelude.{◌≡◌, Bool, true, false};
-ghost use Rattle.std.specs.Io.{ReadsAtMost, WritesAtMost};
+ghost use Rattle.std.specs.Prelude.{◌≡◌, Bool, true, false, take, IfOk, IfSome};
+ghost use Rattle.std.specs.Io.{ReadsAtMost, StartsWith, WritesAtMost};
 ghost use Rattle.std.specs.Io.KnownBytes.{ReadConsumes, WriteAppends, Keeps};
 ghost use Rattle.turned_away.specs.Refusal.{refusal, reason};
 
@@ -11,13 +11,16 @@ use mio::net::TcpStream;
 use std::alloc::Global;
 use std::io;
 use std::io::{Read, Write};
-use std::net::SocketAddr;
+use std::net::{Shutdown, SocketAddr};
 use std::os::fd::{AsRawFd, RawFd};
 use turned_away::refusal;
-use web_stream::WebStream;
+use web_stream::{WebStream, WriteBoth};
 
 /// The code of the close that the server sends: what the connection was for is done (RFC 6455, section 7.4.1).
 const DONE: u16 = 1000;
+
+/// The code of the close that answers what breaks the protocol.
+const PROTOCOL: u16 = 1002;
 
 /// What may hold back bytes that came.
 pub(crate) trait MayHoldBack {
@@ -30,6 +33,11 @@ pub(crate) trait MayHoldBack {
     {
         false
     }
+
+    /// Returns the code of the close (RFC 6455, section 7.4.1) that answers what its peer did wrong.
+    fn close_code(&self) -> u16 {
+        PROTOCOL
+    }
 }
 
 impl MayHoldBack for TcpStream {}
@@ -40,6 +48,45 @@ impl<S> MayHoldBack for WebStream<S> {
     fn may_give_more(&self) -> bool {
         self.has_more()
     }
+
+    fn close_code(&self) -> u16 {
+        match self.fault() {
+            Some(fault) => fault.close_code(),
+            None => PROTOCOL,
+        }
+    }
+}
+
+/// A stream that can be looked at before it is read, and ended at one side.
+pub(crate) trait LooksAhead: Read {
+    /// Reads as `Read::read` does, and leaves the bytes for the next read.
+    fn look(&self, room: &mut [u8]) -> io::Result<usize>
+        ensures bound { ReadsAtMost result room.new }
+        ensures seen { IfOk result (λ n. IfSome (Self.remaining self.now) (λ bytes. StartsWith bytes (take n room.new))) };
+
+    /// Ends what is written: the peer reads the end behind it.
+    fn end_sending(&self);
+}
+
+impl LooksAhead for TcpStream {
+    fn look(&self, room: &mut [u8]) -> io::Result<usize> {
+        self.peek(room)
+    }
+
+    fn end_sending(&self) {
+        let _ended = self.shutdown(Shutdown::Write);
+    }
+}
+
+/// A transport that can be looked at before it is read, and ended at one side.
+pub(crate) trait Peek: Transport {
+    /// Reads as `Transport::receive` does, and leaves the bytes for the next read.
+    fn peek(&self, room: &mut [u8]) -> io::Result<usize>
+        ensures bound { ReadsAtMost result room.new }
+        ensures seen { IfOk result (λ n. IfSome (Self.unread self.now) (λ bytes. StartsWith bytes (take n room.new))) };
+
+    /// Ends what is written: the peer reads the end behind it.
+    fn end_writing(&self);
 }
 
 /// A stream as a viewer's transport.
@@ -61,7 +108,7 @@ impl<S> Socket<S> {
     }
 }
 
-impl<S: Write> Socket<WebStream<S>> {
+impl<S: WriteBoth> Socket<WebStream<S>> {
     /// Writes the close that waits, or one of the server's own, unless an update would be cut by it.
     fn take_leave(&mut self) {
         self.stream.close(DONE);
@@ -71,6 +118,8 @@ impl<S: Write> Socket<WebStream<S>> {
 
 impl<S: Read + Write + MayHoldBack + Drop> Transport for Socket<S> {
     ghost holds_back = { S.holds_back };
+
+    ghost speaks = { true };
 
     fn receive(&mut self, room: &mut [u8]) -> io::Result<usize>
         ensures bound { ReadsAtMost result room.new }
@@ -90,10 +139,24 @@ impl<S: Read + Write + MayHoldBack + Drop> Transport for Socket<S> {
         self.stream.may_give_more()
     }
 
+    fn close_code(&self) -> u16 {
+        self.stream.close_code()
+    }
+
     fn flush(&mut self) -> io::Result<()>
         ensures written { Keeps (S.contents self.old.stream) (S.contents self.new.stream) }
     {
         self.stream.flush()
+    }
+}
+
+impl<S: Read + Write + MayHoldBack + LooksAhead + Drop> Peek for Socket<S> {
+    fn peek(&self, room: &mut [u8]) -> io::Result<usize> {
+        self.stream.look(room)
+    }
+
+    fn end_writing(&self) {
+        self.stream.end_sending();
     }
 }
 
@@ -142,9 +205,14 @@ impl Peer {
         Peer::Plain(Socket::new(stream))
     }
 
-    /// Returns that of a browser whose request was answered by so many bytes. None where memory is refused.
-    pub(crate) fn browser(alloc: Global, stream: TcpStream, answered: usize) -> Option<Peer> {
-        let socket = Socket::new(WebStream::new(stream, answered));
+    /// Returns that of a browser by the connection from which its request was read, and to which an answer of so many bytes was written. None
+    /// where memory is refused.
+    pub(crate) fn browser(
+        alloc: Global,
+        socket: Socket<TcpStream>,
+        answered: usize,
+    ) -> Option<Peer> {
+        let socket = Socket::new(WebStream::new(socket.stream, answered));
         match Box::new(alloc, socket) {
             Ok(socket) => Some(Peer::Browser(socket)),
             Err(_) => None,
@@ -171,6 +239,8 @@ impl Peer {
 impl Transport for Peer {
     ghost holds_back = { true };
 
+    ghost speaks = { true };
+
     fn receive(&mut self, room: &mut [u8]) -> io::Result<usize> {
         match self {
             Peer::Plain(socket) => socket.receive(room),
@@ -189,6 +259,13 @@ impl Transport for Peer {
         match self {
             Peer::Plain(socket) => socket.has_more(),
             Peer::Browser(socket) => socket.has_more(),
+        }
+    }
+
+    fn close_code(&self) -> u16 {
+        match self {
+            Peer::Plain(socket) => socket.close_code(),
+            Peer::Browser(socket) => socket.close_code(),
         }
     }
 

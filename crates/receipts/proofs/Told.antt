@@ -11,7 +11,7 @@ use Rattle.receipts.specs.declared.Receipt.{Receipt}
 use Rattle.receipts.specs.declared.Sent.{Sent}
 use Rattle.receipts.specs.declared.Sent.TheVariants.{Whole, Prefix}
 use Rattle.receipts.specs.declared.Ended.{Ended}
-use Rattle.receipts.specs.declared.Ended.TheVariants.{WriteFailed, Memory, Gate}
+use Rattle.receipts.specs.declared.Ended.TheVariants.{WriteFailed, Memory, Gate, Frames}
 use Rattle.receipts.specs.declared.FinishError.{FinishError}
 use Rattle.receipts.specs.declared.FinishError.TheVariants.{Count, Bytes}
 use Rattle.receipts.specs.Differences.{difference, IsFirstDifference, IsProperPrefix}
@@ -36,13 +36,15 @@ counts-Decides es r = (forth, back)
 broken_off : (e : Ended) → may_break_off e ≡ true → IsBrokenOff e
 broken_off WriteFailed h = inl refl
 broken_off Memory h = inr (inl refl)
-broken_off Gate h = inr (inr refl)
+broken_off Gate h = inr (inr (inl refl))
+broken_off (Frames code) h = inr (inr (inr (code, refl)))
 broken_off _ h = absurd (false≢true h)
 
 may_from : (e : Ended) → IsBrokenOff e → may_break_off e ≡ true
 may_from e (inl is) = ap may_break_off is
 may_from e (inr (inl is)) = ap may_break_off is
-may_from e (inr (inr is)) = ap may_break_off is
+may_from e (inr (inr (inl is))) = ap may_break_off is
+may_from e (inr (inr (inr is))) = ap may_break_off is.1
 
 -- a receipt that is accepted
 sent_as : (r : Receipt) (due : List ℕ) (s : Sent) (o : Option ℕ) → difference nat_eq r.sent due ≡ o → sent_by r o ≡ Ok s → IsSentAs r due s

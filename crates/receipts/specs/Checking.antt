@@ -9,7 +9,7 @@ use Rattle.receipts.specs.declared.Report.{Report}
 use Rattle.receipts.specs.declared.Sent.{Sent}
 use Rattle.receipts.specs.declared.Sent.TheVariants as sent
 use Rattle.receipts.specs.declared.Ended.{Ended}
-use Rattle.receipts.specs.declared.Ended.TheVariants.{WriteFailed, Memory, Gate}
+use Rattle.receipts.specs.declared.Ended.TheVariants.{WriteFailed, Memory, Gate, Frames}
 use Rattle.receipts.specs.declared.FinishError.{FinishError}
 use Rattle.receipts.specs.declared.FinishError.TheVariants as errors
 use Rattle.receipts.specs.Differences.{difference, same_event}
@@ -46,6 +46,7 @@ abbrev pub may_break_off : Ended → Bool
 may_break_off WriteFailed = true
 may_break_off Memory = true
 may_break_off Gate = true
+may_break_off (Frames code) = true
 may_break_off _ = false
 
 -- by the first place at which what was sent differs from what is to be sent: where that is the end of what was sent, it is a proper prefix

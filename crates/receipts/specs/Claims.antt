@@ -9,7 +9,7 @@ use Rattle.receipts.specs.declared.Report.{Report}
 use Rattle.receipts.specs.declared.Sent.{Sent}
 use Rattle.receipts.specs.declared.Sent.TheVariants.{Whole, Prefix}
 use Rattle.receipts.specs.declared.Ended.{Ended}
-use Rattle.receipts.specs.declared.Ended.TheVariants.{WriteFailed, Memory, Gate}
+use Rattle.receipts.specs.declared.Ended.TheVariants.{WriteFailed, Memory, Gate, Frames}
 use Rattle.receipts.specs.declared.FinishError.{FinishError}
 use Rattle.receipts.specs.declared.FinishError.TheVariants.{NotKept, Drawing, Missing, Count, Bytes, OutOfMemory}
 use Rattle.receipts.specs.Differences.{IsFirstDifference, IsProperPrefix}
@@ -24,9 +24,9 @@ pub record CountsAre (history : List Event) (r : Receipt) : Type 0 where
   pub cuts : r.cuts ≡ cuts_of r.viewer history
   pub heard : r.heard ≡ heard_of r.viewer history
 
--- a write failed, memory was wanted, or the gate refused
+-- a write failed, memory was wanted, the gate refused, or what a browser sent was answered by a close
 abbrev pub IsBrokenOff : Ended → Type 0
-IsBrokenOff ended = (ended ≡ WriteFailed) ⊎ ((ended ≡ Memory) ⊎ (ended ≡ Gate))
+IsBrokenOff ended = (ended ≡ WriteFailed) ⊎ ((ended ≡ Memory) ⊎ ((ended ≡ Gate) ⊎ ((code : ℕ) × (ended ≡ Frames code))))
 
 -- how much was sent of what was due: all of it, or where the sender broke off its first bytes
 abbrev pub IsSentAs : Receipt → List ℕ → Sent → Type 0

@@ -35,6 +35,8 @@ pub enum Ended {
     Closed,
     /// The server was stopped.
     Stopped,
+    /// The viewer's browser sent what no frame of a WebSocket is, and is answered by a close with this code (RFC 6455, section 7.4.1).
+    Frames(u16),
 }
 
 impl Ended {
@@ -46,7 +48,10 @@ impl Ended {
     pub fn may_break_off(self) -> bool
         ensures { result ≡ may_break_off self }
     {
-        matches!(self, Ended::WriteFailed | Ended::Memory | Ended::Gate)
+        matches!(
+            self,
+            Ended::WriteFailed | Ended::Memory | Ended::Gate | Ended::Frames(_)
+        )
     }
 }
 

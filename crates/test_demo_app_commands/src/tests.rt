@@ -1,4 +1,3 @@
-mod browsers;
 mod clients;
 mod lines;
 mod own;

@@ -14,7 +14,7 @@ use Rattle.screen.specs.declared.Answer.{Answer}
 use Rattle.screen.specs.declared.ScreenError.{ScreenError}
 use Rattle.screen.specs.declared.ScreenError.TheVariants.{NoViewer, OutOfMemory}
 use Rattle.receipts.specs.declared.Ended.{Ended}
-use Rattle.receipts.specs.declared.Ended.TheVariants.{EndOfInput, Fault, ReadFailed, WriteFailed, Memory, Gate, Closed, Stopped}
+use Rattle.receipts.specs.declared.Ended.TheVariants.{EndOfInput, Fault, ReadFailed, WriteFailed, Memory, Gate, Closed, Stopped, Frames}
 use Rattle.update_sender.specs.Ends.{Listening, Speaking, counted, listened, without_waiting, has_sent, has_cut}
 use Rattle.update_sender.specs.Reasons.{unheard_for}
 use Rattle.update_sender.specs.Serving.{IsPiece, after_pieces, Hears, ReadingEnds, OpeningEnds, HearsPiece, HearsNoMore, WritingEnds, Sends, Writes, Replies, GreetingEnds, bytes_of, after_update, after_updates, after_last, SendingEnds, SendsUpdate, SendsNoMore, SendsUpdates, CutsAndSends}
@@ -165,6 +165,7 @@ writing-broken Memory written update h = h
 writing-broken Gate written update h = absurd h
 writing-broken Closed written update h = absurd h
 writing-broken Stopped written update h = absurd h
+writing-broken (Frames code) written update h = absurd h
 
 -- some of it was written
 pub broken-written : (W : Type 0) (a b : Option (List ℕ)) (s t u : Speaking) (update : List ℕ) (e : Ended) → W → t ≡ has_cut s → (added : List ℕ) × Appends a b added × (u ≡ has_sent added t) × WritingEnds e added update → SendsNoMore W a b s u e
@@ -214,6 +215,7 @@ ending-further Memory before added buffer rest left all whole part h = (h.0 ++ r
 ending-further Gate before added buffer rest left all whole part h = absurd h
 ending-further Closed before added buffer rest left all whole part h = absurd h
 ending-further Stopped before added buffer rest left all whole part h = absurd h
+ending-further (Frames code) before added buffer rest left all whole part h = absurd h
 
 -- ---- answering
 
@@ -226,6 +228,7 @@ writing-ends Memory written due h = inl refl
 writing-ends Gate written due h = absurd h
 writing-ends Closed written due h = absurd h
 writing-ends Stopped written due h = absurd h
+writing-ends (Frames code) written due h = absurd h
 
 -- an opening that ends with an answer has heard all that was read
 pub reply-ends : (e : Ended) (a : Option (List ℕ)) (added bytes : List ℕ) (closed : Option Met) → ((added ≡ bytes) × ((fault : Met) × (closed ≡ Some fault) × (e ≡ Fault fault))) ⊎ WritingEnds e added bytes → OpeningEnds e a []

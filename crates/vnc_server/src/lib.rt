@@ -16,7 +16,7 @@ ghost use Rattle.c_screen.specs.Codes as codes;
 ghost use Rattle.c_screen.specs.Calls.{colour_at, of_viewer};
 ghost use Rattle.c_screen.specs.Desk.{rect_of, config_of};
 ghost use Rattle.c_server.specs.Desk.{nothing_there, rects_per_update};
-ghost use Rattle.c_server.specs.Calls.{Listens, ServesUnbound, Adopts, NamesRecord, record_state, TakesTurn, Draws, DrawsRegion, FetchesInputs, FetchesVisits, ShowsNumbers, ShowsText, ShowsSettings, Tells, TellsAddress, TellsSome, TellsWait, LetsGo, TakesPixels, Wakes};
+ghost use Rattle.c_server.specs.Calls.{Listens, ListensFurther, ServesUnbound, Adopts, NamesRecord, record_state, TakesTurn, Draws, DrawsRegion, FetchesInputs, FetchesVisits, ShowsNumbers, ShowsText, ShowsSettings, Tells, TellsAddress, TellsSome, TellsWait, LetsGo, TakesPixels, Wakes};
 ghost use Rattle.c_screen.specs.Pixels.{format_of, source_from};
 ghost use Rattle.source_pixels.specs.declared.formats.SourceFormat.TheVariants as format;
 
@@ -108,6 +108,32 @@ pub unsafe extern "C" fn vnc_server_listen_n(
         name,
         viewers,
     )
+}
+
+/// Listens on a further port (`ServerDesk::listen_also`).
+#[unsafe(no_mangle)]
+pub unsafe extern "C" fn vnc_server_listen_also_n(at: *mut Place, address: &[u8], port: u16) -> i32
+    ghost before: { desk_row.Denot }
+    requires* { sem 𝓛 (holds at before) }
+    ensures* { sem 𝓛 (leaves at (λ after. ListensFurther address.now port before after result)) }
+{
+    ServerDesk::listen_also(&mut *(at as *mut ServerDesk), address, port)
+}
+
+/// Listens on a port for browsers (`ServerDesk::listen_web`).
+#[unsafe(no_mangle)]
+pub unsafe extern "C" fn vnc_server_listen_web_n(
+    at: *mut Place,
+    address: &[u8],
+    port: u16,
+    hosts: &[u8],
+    origins: &[u8],
+) -> i32
+    ghost before: { desk_row.Denot }
+    requires* { sem 𝓛 (holds at before) }
+    ensures* { sem 𝓛 (leaves at (λ after. ListensFurther address.now port before after result)) }
+{
+    ServerDesk::listen_web(&mut *(at as *mut ServerDesk), address, port, hosts, origins)
 }
 
 /// Serves a black screen, and listens nowhere (`ServerDesk::serve`).

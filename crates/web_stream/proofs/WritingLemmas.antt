@@ -287,26 +287,6 @@ pub appends_behind : {E : Type 0} (a b c : Option (List ℕ)) (r : Result ℕ E)
 appends_behind a b c (Ok n) bs p q = keeps_then a b c (take n bs) p q
 appends_behind a b c (Err e) bs p q = Keeps-trans a b c p q
 
-take_sum : (m k : ℕ) (xs : List ℕ) → take m xs ++ take k (drop m xs) ≡ take (m + k) xs
-take_sum zero k xs = let e : k ≡ 0 + k = omega arith in ap (λ (j : ℕ). take j xs) e
-take_sum (suc m) k [] = take_nil k ∙ sym (take_nil (suc m + k))
-take_sum (suc m) k (x ∷ xs) =
-    let e : suc (m + k) ≡ suc m + k = omega arith in
-    ap (λ (l : List ℕ). x ∷ l) (take_sum m k xs) ∙ ap (λ (j : ℕ). take j (x ∷ xs)) e
-
--- the first bytes were taken, and then k of the others
-pub appends_both : (a b c : Option (List ℕ)) (m k : ℕ) (bs : List ℕ) → Appends a b (take m bs) → Appends b c (take k (drop m bs))
-    → Appends a c (take (m + k) bs)
-appends_both a b c m k bs p q =
-    let P : List ℕ → Type 0 = λ l. Appends a c l in subst P (take_sum m k bs) (Appends-trans a b c (take m bs) (take k (drop m bs)) p q)
-
--- the first bytes were taken, and then none
-pub appends_first : (a b c : Option (List ℕ)) (bs : List ℕ) → Appends a b bs → Keeps b c → Appends a c bs
-appends_first None b c bs p q = tt
-appends_first (Some x) None c bs p q = absurd p
-appends_first (Some x) (Some y) None bs p q = absurd q
-appends_first (Some x) (Some y) (Some z) bs p q = q ∙ p
-
 -- a write that took no payload
 pub keeps_from_none : (a b : Option (List ℕ)) (bs : List ℕ) → Appends a b (take 0 bs) → Keeps a b
 keeps_from_none a b bs p = keeps_from a b p
@@ -315,7 +295,7 @@ keeps_from_none a b bs p = keeps_from a b p
 
 pub ruleset one_write = (takes_own, stays, is_nil)
 
-pub ruleset two_writes = (appends_first, keeps_from_none, is_nil)
+pub ruleset head_alone = (keeps_from_none, stays)
 
 pub ruleset frame_begins = (begins, answers, stays)
 

@@ -1,6 +1,6 @@
 //! What comes: frames are taken apart byte by byte, however they are cut.
 
-ghost use Rattle.std.specs.Prelude.{◌≡◌, ◌+◌, ◌<◌, ◌≤◌, ◌++◌, length, take, option_to_list, is_some};
+ghost use Rattle.std.specs.Prelude.{◌≡◌, ◌+◌, ◌<◌, ◌≤◌, ◌++◌, None, length, take, option_to_list, is_some};
 ghost use Rattle.web_stream.specs.Next.{asked_by};
 ghost use Rattle.web_stream.specs.Reading.{at_start, step, step_in, given, given_in, after, payloads};
 ghost use Rattle.web_stream.specs.Reading.{with_kept, settled, closed, faulty, ended_by};
@@ -80,7 +80,8 @@ impl Inward {
 
     /// Takes the answer that waits.
     pub fn take_answer(&mut self) -> Option<Answer>
-        ensures { result ≡ self.old.answer }
+        ensures answer { result ≡ self.old.answer }
+        ensures none { self.new.answer ≡ None }
     {
         self.answer.take()
     }

@@ -12,7 +12,9 @@ mod laws;
 mod next;
 mod outward;
 mod stream;
+mod write_both;
 
 pub use fault::WebFault;
 pub use laws::reads_frames;
 pub use stream::WebStream;
+pub use write_both::WriteBoth;

@@ -1,15 +1,9 @@
 //! What goes: the frame that is on its way.
 
-ghost use Rattle.std.specs.Prelude.{◌≡◌, ◌+◌, ◌-◌, ◌≤◌, [], ◌++◌, length, drop};
+ghost use Rattle.std.specs.Prelude.{◌≡◌, ◌+◌, ◌-◌, ◌≤◌, [], length, drop};
 
 use crate::answer::OWN;
 use arrayvec::ArrayVec;
-
-/// How many bytes are written at once of a frame's head and payload together, at most.
-pub(crate) const JOINED: usize = 2_048;
-
-/// How many of these are payload.
-pub(crate) const FIRST: usize = 1_921;
 
 /// What is to be written of the frame that is on its way: bytes of the server's own, and behind these so many bytes of payload.
 #[derive(Drop)]
@@ -18,18 +12,6 @@ pub(crate) struct Outward {
     pub own: ArrayVec<u8, OWN>,
     /// How many bytes of a data frame's payload are left.
     pub owed: usize,
-}
-
-/// Returns bytes of the server's own and then payload, in one piece.
-pub(crate) fn joined(own: &[u8], payload: &[u8]) -> ArrayVec<u8, JOINED>
-    requires own { length own.now ≤ 127 }
-    requires payload { length payload.now ≤ 1921 }
-    ensures { result.items ≡ own.now ++ payload.now }
-{
-    let mut all = ArrayVec::new();
-    all.try_extend_from_slice(own).unwrap();
-    all.try_extend_from_slice(payload).unwrap();
-    all
 }
 
 /// Returns bytes of the server's own.

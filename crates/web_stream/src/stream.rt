@@ -1,6 +1,6 @@
 //! A WebSocket as a stream.
 
-ghost use Rattle.std.specs.Prelude.{◌≡◌, ℕ, ◌<◌, ◌≤◌, List, [], Some, length, option_map, IfOk, IfSome, OnOk};
+ghost use Rattle.std.specs.Prelude.{◌≡◌, ℕ, ◌<◌, ◌≤◌, List, [], None, Some, false, length, option_map, IfOk, IfSome, OnOk};
 ghost use Rattle.std.specs.Io.{WritesAtMost};
 ghost use Rattle.std.specs.Io.KnownBytes.{WriteAppends, Keeps, IsAtEnd};
 ghost use Rattle.web_stream.specs.Reading.{at_start, payloads, closed};
@@ -10,7 +10,8 @@ ghost use Rattle.web_stream.specs.Stream.{TakesPiece};
 use crate::answer::data_head;
 use crate::fault::WebFault;
 use crate::inward::{Inward, Over};
-use crate::outward::{FIRST, Outward, joined};
+use crate::outward::Outward;
+use crate::write_both::WriteBoth;
 use std::io;
 use std::io::{ErrorKind, Read, Write};
 use std::os::fd::{AsRawFd, RawFd};
@@ -144,7 +145,7 @@ impl<S: Read> Read for WebStream<S> {
     }
 }
 
-impl<S: Write> WebStream<S> {
+impl<S: WriteBoth> WebStream<S> {
     /// Begins a binary frame of `size` bytes, unless one is on its way.
     #[tactic(auto, using(crate::proofs::WritingLemmas::frame_begins))]
     fn begin(&mut self, size: usize)
@@ -158,13 +159,14 @@ impl<S: Write> WebStream<S> {
         }
     }
 
-    /// Begins the frame of an answer that waits. None is on its way.
+    /// Begins the frame of an answer that waits, which doesn't wait any more then. None is on its way.
     #[tactic(auto, using(crate::proofs::WritingLemmas::frame_begins))]
     fn begin_answer(&mut self)
         requires none { self.old.outward.own.items ≡ [] }
         requires whole { self.old.outward.owed ≡ 0 }
         ensures kept { Keeps (contents_in S.contents self.old) (contents_in S.contents self.new) }
         ensures owed { self.new.outward.owed ≡ 0 }
+        ensures taken { self.new.inward.answer ≡ None }
     {
         if let Some(answer) = self.inward.take_answer() {
             self.outward.own = answer.frame();
@@ -177,6 +179,7 @@ impl<S: Write> WebStream<S> {
         ensures kept { Keeps (contents_in S.contents self.old) (contents_in S.contents self.new) }
         ensures owed { self.new.outward.owed ≡ self.old.outward.owed }
         ensures whole { OnOk result (self.new.outward.own.items ≡ []) }
+        ensures inward { self.new.inward ≡ self.old.inward }
     {
         if self.outward.own.is_empty() {
             return Ok(());
@@ -197,6 +200,7 @@ impl<S: Write> WebStream<S> {
     fn write_answer(&mut self) -> io::Result<()>
         ensures kept { Keeps (contents_in S.contents self.old) (contents_in S.contents self.new) }
         ensures whole { OnOk result (self.new.outward.owed ≡ 0 → self.new.outward.own.items ≡ []) }
+        ensures written { OnOk result (owes_in self.new ≡ false) }
     {
         if self.outward.owed > 0 {
             return Ok(());
@@ -206,57 +210,34 @@ impl<S: Write> WebStream<S> {
         self.write_own()
     }
 
-    /// Writes payload of the frame that is on its way, whose head is written.
-    #[tactic(auto, using(crate::proofs::WritingLemmas::one_write))]
-    fn write_payload(&mut self, bytes: &[u8]) -> io::Result<usize>
-        requires { self.old.outward.own.items ≡ [] }
+    /// Writes once what is left of a head, and the payload of its frame behind it. Returns how many bytes of payload were taken, which may be
+    /// none.
+    fn write_joined(&mut self, bytes: &[u8]) -> io::Result<usize>
         ensures bound { WritesAtMost result bytes.now }
         ensures bytes { WriteAppends (contents_in S.contents self.old) (contents_in S.contents self.new) result bytes.now }
     {
         let most = bytes.len().min(self.outward.owed);
-        let written = self.stream.write(&bytes[..most])?;
+        let written = self.stream.write_both(&self.outward.own, &bytes[..most])?;
         Ok(self.outward.count(written))
     }
 
-    /// Writes once what is left of a head, and the first bytes of its frame's payload with it. Returns how many bytes of payload were
-    /// taken, which may be none.
-    #[tactic(auto, using(crate::proofs::WritingLemmas::one_write))]
-    fn write_joined(&mut self, bytes: &[u8]) -> io::Result<usize>
-        ensures bound { WritesAtMost result bytes.now }
-        ensures bytes { WriteAppends (contents_in S.contents self.old) (contents_in S.contents self.new) result bytes.now }
-        ensures whole { IfOk result (λ n. 0 < n → self.new.outward.own.items ≡ []) }
-    {
-        let most = bytes.len().min(self.outward.owed).min(FIRST);
-        let all = joined(&self.outward.own, &bytes[..most]);
-        let written = self.stream.write(&all)?;
-        Ok(self.outward.count(written))
-    }
-
-    /// Writes bytes as payload of the frame that is on its way, in two writes at most. Fails as `Interrupted` where the stream below took
-    /// bytes of the head alone.
-    #[tactic(auto, using(crate::proofs::WritingLemmas::two_writes))]
+    /// Writes bytes as payload of the frame that is on its way, in one write. Fails as `Interrupted` where the stream below took bytes of the
+    /// head alone.
+    #[tactic(auto, using(crate::proofs::WritingLemmas::head_alone))]
     fn write_frame(&mut self, bytes: &[u8]) -> io::Result<usize>
         ensures bound { WritesAtMost result bytes.now }
         ensures bytes { WriteAppends (contents_in S.contents self.old) (contents_in S.contents self.new) result bytes.now }
     {
-        if self.outward.own.is_empty() {
-            return self.write_payload(bytes);
-        }
-        let first = self.write_joined(bytes)?;
-        if first == 0 {
+        let has_head = !self.outward.own.is_empty();
+        let count = self.write_joined(bytes)?;
+        if count == 0 && has_head {
             return Err(io::Error::from(ErrorKind::Interrupted));
         }
-        if first == bytes.len() || self.outward.owed == 0 {
-            return Ok(first);
-        }
-        match self.write_payload(&bytes[first..]) {
-            Ok(more) => Ok(first + more),
-            Err(_) => Ok(first),
-        }
+        Ok(count)
     }
 }
 
-impl<S: Write> Write for WebStream<S> {
+impl<S: WriteBoth> Write for WebStream<S> {
     ghost contents = { contents_in S.contents };
 
     /// Writes bytes as the payload of a binary frame of their length, after what `flush` would write. Where the stream below takes fewer,
@@ -276,8 +257,12 @@ impl<S: Write> Write for WebStream<S> {
         self.write_frame(bytes)
     }
 
-    /// Writes the pong or the close that waits, unless a data frame is on its way, and flushes the stream below.
-    fn flush(&mut self) -> io::Result<()> {
+    /// Writes the pong or the close that waits, unless a data frame is on its way, and flushes the stream below. Where that goes well none
+    /// waits any more that could be written.
+    fn flush(&mut self) -> io::Result<()>
+        ensures kept { Keeps (contents_in S.contents self.old) (contents_in S.contents self.new) }
+        ensures written { OnOk result (owes_in self.new ≡ false) }
+    {
         self.write_answer()?;
         self.stream.flush()
     }

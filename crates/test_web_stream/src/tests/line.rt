@@ -2,7 +2,8 @@
 
 use std::alloc::Global;
 use std::io;
-use std::io::{ErrorKind, Read, Write};
+use std::io::{ErrorKind, IoSlice, Read, Write};
+use web_stream::WriteBoth;
 
 /// What gives bytes in pieces, and takes few bytes at once.
 #[derive(Drop)]
@@ -62,5 +63,11 @@ impl Write for Line {
 
     fn flush(&mut self) -> io::Result<()> {
         Ok(())
+    }
+}
+
+impl WriteBoth for Line {
+    fn write_both(&mut self, first: &[u8], second: &[u8]) -> io::Result<usize> {
+        self.write_vectored(&[IoSlice::new(first), IoSlice::new(second)])
     }
 }

@@ -1,0 +1,13 @@
+mod ByteLemmas
+mod StepLemmas
+mod MessageTurns
+mod RowLemmas
+mod RunLemmas
+mod RectangleTurns
+mod TileLemmas
+mod TileTurns
+mod TileHeads
+mod HextileLemmas
+mod OnLemmas
+mod EndLemmas
+mod ReadingLemmas

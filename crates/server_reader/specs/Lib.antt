@@ -1,0 +1,9 @@
+pub mod Groups
+pub mod Stages
+pub mod OnPicture
+pub mod Heard
+pub mod Steps
+pub mod Faults
+pub mod Runs
+pub mod Readings
+pub mod Pictures

@@ -1,0 +1,4 @@
+pub mod Lists
+pub mod Growing
+pub mod Shortness
+pub mod Read

@@ -1,0 +1,4 @@
+pub mod Opening
+pub mod Requests
+pub mod Outbox
+pub mod Readings
