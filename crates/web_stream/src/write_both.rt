@@ -18,6 +18,7 @@ pub trait WriteBoth: Write {
 
 impl WriteBoth for TcpStream {
     fn write_both(&mut self, first: &[u8], second: &[u8]) -> io::Result<usize> {
-        self.write_vectored(&[IoSlice::new(first), IoSlice::new(second)])
+        let stream: &TcpStream = self;
+        stream.write_vectored(&[IoSlice::new(first), IoSlice::new(second)])
     }
 }
