@@ -22,6 +22,9 @@ const DONE: u16 = 1000;
 /// The code of the close that answers what breaks the protocol.
 const PROTOCOL: u16 = 1002;
 
+/// How many bytes a version has (RFC 6143, section 7.1.1).
+const VERSION: usize = 12;
+
 /// What may hold back bytes that came.
 pub(crate) trait MayHoldBack {
     // Whether it may.
@@ -303,8 +306,19 @@ pub(crate) fn set_up<S: AsRawFd + SendsAtOnce>(socket: &S) {
 }
 
 /// Tells a connection that there are too many. It is new, so there is room for these few bytes. Returns how many it took.
+///
+/// The version is a write of its own, and so a frame: noVNC reads one message of an opening in each.
 pub(crate) fn turn_away<T: Transport>(transport: &mut T) -> io::Result<usize>
     ensures said { WriteAppends (T.written transport.old) (T.written transport.new) result (refusal reason) }
 {
-    transport.send(&refusal())
+    let said = refusal();
+    let (version, why) = said.split_at(VERSION);
+    let taken = transport.send(version)?;
+    if taken < version.len() {
+        return Ok(taken);
+    }
+    match transport.send(why) {
+        Ok(further) => Ok(taken + further),
+        Err(_) => Ok(taken),
+    }
 }
