@@ -4,10 +4,11 @@
 A browser is sent what a viewer over TCP is sent; pings, closes and wrong frames are answered by their codes, wrong requests by their statuses,
 and how a browser ended is printed; silent ones hold nobody up, and so many streams with bytes changed, put in or left out, cut anywhere, each come to an end, with viewers served
 behind them. With --cost it prints instead what processor time the server takes for a whole update of 1920 by 1080 in Raw, and for a dot to
-eight viewers, over TCP and over WebSockets in turns. The status is 1 where something is not as it should be."""
+eight viewers, over TCP and over WebSockets in turns, and with websockify in front where that is installed. The status is 1 where something is not as it should be."""
 import argparse
 import os
 import random
+import shutil
 import socket
 import struct
 import subprocess
@@ -21,6 +22,12 @@ SOON = 5
 RAW = struct.pack(">BxHi", 2, 1, 0)
 
 
+def spent(pid):
+    """What a process spent of the processor's time, in seconds."""
+    fields = open(f"/proc/{pid}/stat").read().rpartition(")")[2].split()
+    return (int(fields[11]) + int(fields[12])) / os.sysconf("SC_CLK_TCK")
+
+
 class Server:
     def __init__(self, program, width, height):
         words = [program, "serve", "--one-thread", "--forever", "--end-with-input", "--port", "0", "--web", "0", "--viewers", "100"]
@@ -30,8 +37,7 @@ class Server:
         self.port, self.web = (int(it.split(":")[1].strip(",")) for it in line.split() if it.startswith("127.0.0.1:"))
 
     def seconds(self):
-        fields = open(f"/proc/{self.process.pid}/stat").read().rpartition(")")[2].split()
-        return (int(fields[11]) + int(fields[12])) / os.sysconf("SC_CLK_TCK")
+        return spent(self.process.pid)
 
     def end(self):
         self.process.stdin.close()
@@ -222,16 +228,40 @@ def has_status(web, data, status):
         return int(answer.split(b" ")[1]) == status and answer.endswith(TEXTS.get(status, b""))
 
 
-def ending(program, data):
-    """What is printed of a browser that says these bytes behind the version."""
-    words = [program, "serve", "--one-thread", "--port", "0", "--web", "0", "--viewers", "1"]
-    with subprocess.Popen(words, stdout=subprocess.PIPE, stderr=subprocess.PIPE, text=True) as process:
-        web = int(process.stderr.readline().rpartition("127.0.0.1:")[2].split()[0].strip(","))
+def of_one(program, *words):
+    """A server of one viewer at once, and its port for browsers."""
+    words = [program, "serve", "--one-thread", *words, "--port", "0", "--web", "0", "--viewers", "1"]
+    process = subprocess.Popen(words, stdin=subprocess.PIPE, stdout=subprocess.PIPE, stderr=subprocess.PIPE, text=True)
+    return process, int(process.stderr.readline().rpartition("127.0.0.1:")[2].split()[0].strip(","))
+
+
+def ending(program, data, apart):
+    """What is printed of a browser that says these bytes behind the version, or at once with it."""
+    process, web = of_one(program)
+    with process:
         browser = Browser(web)
-        browser.send(b"RFB 003.008\n")
-        browser.answer(data)
+        version = frame(b"RFB 003.008\n")
+        if apart:
+            browser.stream.sendall(version)
+            browser.take(14)
+        browser.answer(data if apart else version + data)
         browser.stream.close()
         return process.communicate(timeout=PATIENCE)[0]
+
+
+def told(program):
+    """The frames that a browser is sent that is one too many, and its close."""
+    process, web = of_one(program, "--forever", "--end-with-input")
+    with process:
+        one = Browser(web)
+        one.open()
+        other, frames = Browser(web), []
+        while not other.own:
+            other.fill()
+            frames.append(bytes(other.held))
+            other.held.clear()
+        process.communicate(timeout=PATIENCE)
+        return frames[:-1], other.own
 
 
 def changed(data, chance):
@@ -291,8 +321,13 @@ def check(program, streams, seed):
     hurried = Browser(server.web, frame(b"RFB 003.008\n"))
     if hurried.take(14) != b"RFB 003.008\n\x01\x01":
         wrong.append("a frame right behind a request")
-    if ending(program, frame(b"x", opcode=1)) != "viewer 1 Frames\n":
-        wrong.append("the end of one whose frames are wrong")
+    for apart in (False, True):
+        if ending(program, frame(b"x", opcode=1), apart) != "viewer 1 Frames\n":
+            wrong.append("the end of one whose frames are wrong")
+    why = b"too many viewers"
+    # noVNC reads one message of an opening in each frame
+    if told(program) != ([b"RFB 003.003\n", struct.pack(">II", 0, len(why)) + why], [(8, b"\x03\xe8")]):
+        wrong.append("what is told to one too many")
     silent = [socket.create_connection(("127.0.0.1", server.web)) for _ in range(200)]
     began = time.monotonic()
     if Browser(server.web).session(64, 48) != wanted or time.monotonic() - began > 2:
@@ -345,22 +380,52 @@ def median(values):
     return sorted(values)[len(values) // 2]
 
 
+class Helped(Server):
+    """A server with websockify in front, where that is installed. Its time is counted with the server's."""
+
+    def __init__(self, program, width, height):
+        super().__init__(program, width, height)
+        with socket.create_server(("127.0.0.1", 0)) as free:
+            self.web = free.getsockname()[1]
+        words = ["websockify", f"127.0.0.1:{self.web}", f"127.0.0.1:{self.port}"]
+        self.helper = subprocess.Popen(words, stdout=subprocess.DEVNULL, stderr=subprocess.DEVNULL)
+        while True:
+            try:
+                return socket.create_connection(("127.0.0.1", self.web)).close()
+            except ConnectionRefusedError:
+                time.sleep(0.1)
+
+    def seconds(self):
+        """With those of the processes that it made, one for each connection."""
+        children = open(f"/proc/{self.helper.pid}/task/{self.helper.pid}/children").read().split()
+        return super().seconds() + sum(spent(pid) for pid in (self.helper.pid, *children))
+
+    def end(self):
+        self.helper.terminate()
+        self.helper.wait(10)
+        return super().end()
+
+
 def cost(program):
-    """Both ways in turns, each on a server of its own."""
+    """All ways in turns, each on a server of its own."""
+    ways = [("TCP", Server, Viewer), ("WebSockets", Server, Browser)]
+    if shutil.which("websockify"):
+        ways.append(("websockify", Helped, Browser))
     taken = {}
     for _ in range(5):
-        for name, kind in (("TCP", Viewer), ("WebSockets", Browser)):
-            server = Server(program, 1920, 1080)
-            port = server.port if kind is Viewer else server.web
-            taken.setdefault(("a whole update", name), []).append(whole(server, kind(port), 300) * 1000)
+        for name, kind, viewer in ways:
+            server = kind(program, 1920, 1080)
+            port = server.port if viewer is Viewer else server.web
+            taken.setdefault(("a whole update", name), []).append(whole(server, viewer(port), 300) * 1000)
             server.end()
-            server = Server(program, 64, 48)
-            port = server.port if kind is Viewer else server.web
-            taken.setdefault(("a dot to eight", name), []).append(dots(server, [kind(port) for _ in range(8)], 12000) * 1000)
+            server = kind(program, 64, 48)
+            port = server.port if viewer is Viewer else server.web
+            taken.setdefault(("a dot to eight", name), []).append(dots(server, [viewer(port) for _ in range(8)], 12000) * 1000)
             server.end()
     for row in ("a whole update", "a dot to eight"):
-        plain, web = median(taken[row, "TCP"]), median(taken[row, "WebSockets"])
-        print(f"{row}: {plain:.3f} ms of the processor over TCP, {web:.3f} over WebSockets, {web / plain:.2f}")
+        plain = median(taken[row, "TCP"])
+        cells = ", ".join(f"{median(taken[row, name]):.3f} over {name} ({median(taken[row, name]) / plain:.2f})" for name, _, _ in ways)
+        print(f"{row}, in ms of the processor: {cells}")
     return 0
 
 

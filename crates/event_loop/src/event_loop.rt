@@ -22,7 +22,7 @@ use crate::entrance::Entrance;
 use crate::limits::Limits;
 use crate::poller::{Found, Poller, found_in};
 use crate::shorter::shorter;
-use crate::socket::Peer;
+use crate::socket::{Peer, TakesLeave};
 use crate::viewers::{Admission, Viewers};
 use connections::{
     Application, Canvas, Config, Connections, Readiness, RecordWriter, Screen, ScreenError,

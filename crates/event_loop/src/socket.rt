@@ -193,6 +193,13 @@ impl<S: SendsAtOnce> SendsAtOnce for Socket<S> {
     }
 }
 
+/// What is taken leave of before it is closed.
+pub(crate) trait TakesLeave {
+    /// Says that it is closed now, where there is a word for that: a browser is sent a close, or the answer to its own, unless an update
+    /// would be cut by it.
+    fn take_leave(&mut self);
+}
+
 /// A viewer's socket, over TCP or, for a browser, as a WebSocket on it (RFC 6455).
 #[derive(Drop)]
 pub enum Peer {
@@ -229,9 +236,10 @@ impl Peer {
             Peer::Browser(socket) => socket.stream.get_ref().peer_addr(),
         }
     }
+}
 
-    /// Takes leave of it, before it is closed: a browser is sent a close, or the answer to its own, unless an update would be cut by it.
-    pub(crate) fn take_leave(&mut self) {
+impl TakesLeave for Peer {
+    fn take_leave(&mut self) {
         match self {
             Peer::Plain(_) => {}
             Peer::Browser(socket) => socket.take_leave(),

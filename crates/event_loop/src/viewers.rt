@@ -16,7 +16,7 @@ ghost use Rattle.event_loop.specs.Room.{accepts_next, all_came, has_room, turns_
 use crate::limits::{Limits, WhenFull};
 use crate::opening::Newcomers;
 use crate::poller::Poller;
-use crate::socket::{SendsAtOnce, set_up, turn_away};
+use crate::socket::{SendsAtOnce, TakesLeave, set_up, turn_away};
 use connections::{Application, Connections, ScreenError, Transport};
 use std::alloc::{AllocError, Global};
 use std::os::fd::AsRawFd;
@@ -188,7 +188,7 @@ impl<T: Transport> Viewers<T> {
     }
 }
 
-impl<T: Transport + AsRawFd + SendsAtOnce> Viewers<T> {
+impl<T: Transport + AsRawFd + SendsAtOnce + TakesLeave> Viewers<T> {
     /// Takes in a connection that came at the time `now`, and tells the application, or turns it away where there is no room for it. Where
     /// the application fails, its viewer came all the same.
     pub fn admit<A: Application>(
@@ -210,6 +210,7 @@ impl<T: Transport + AsRawFd + SendsAtOnce> Viewers<T> {
     {
         if !self.has_room() {
             let _said = turn_away(&mut transport);
+            transport.take_leave();
             return Ok(Admission::TurnedAway);
         }
         if poller.add(&transport, self.connections.next_key()).is_err() {
