@@ -1,5 +1,5 @@
--- A data frame that a client sends is read as its payload.
-use Rattle.std.proofs.Common.{◌≡◌, ℕ, ◌+◌, ◌%◌, ◌^◌, ◌<◌, ◌≤◌, ◌≢◌, Bool, true, false, cond, not, ◌||◌, eqb, ltb, leb, List, [], ◌∷◌, ◌++◌, length, get_or, bit_xor, Option, None, Some, refl, sym, ap, subst, ◌∙◌, append_assoc, ne_eqb, le-ltb, lt-ltb, ltb-true, ltb-false, le_refl, arith}
+-- A data frame that a client sends is read as its payload, and a ping is answered.
+use Rattle.std.proofs.Common.{◌≡◌, ℕ, suc, ◌+◌, ◌%◌, ◌^◌, ◌<◌, ◌≤◌, ◌≢◌, Bool, true, false, cond, not, ◌||◌, eqb, ltb, leb, List, [], ◌∷◌, ◌++◌, length, get_or, bit_xor, Option, None, Some, refl, sym, ap, subst, ◌∙◌, append_assoc, ne_eqb, le-ltb, lt-ltb, ltb-true, ltb-false, le_refl, arith}
 use lib.Bits.{xor_assoc, xor_self, xor_zero_r}
 use Rattle.std.proofs.lemmas.Bool.{lt-leb}
 use Rattle.std.proofs.lemmas.List.{length-append}
@@ -7,11 +7,12 @@ use Rattle.std.proofs.lemmas.Nat.{from_be_bytes-to_be_bytes_2, from_be_bytes-to_
 use Rattle.std.specs.Int.{w16, w64, to_be_bytes}
 use Rattle.web_stream.specs.declared.fault.WebFault.{WebFault}
 use Rattle.web_stream.specs.declared.fault.WebFault.TheVariants.{Reserved, Unmasked, Control, Length}
+use Rattle.web_stream.specs.Answers.{control_frame}
 use Rattle.web_stream.specs.Frames.{is_control, control_size, kept_size, key_at, short_size, long_size}
 use Rattle.web_stream.specs.Faults.{is_reserved, control_fault, data_fault, head_fault}
-use Rattle.web_stream.specs.Next.{Asked, more, payload, fault, unmasked, next_of, next_of_whole, next_of_control, next_of_data}
+use Rattle.web_stream.specs.Next.{Asked, more, payload, ping, fault, unmasked, next_of, next_of_whole, next_of_control, next_of_data}
 use Rattle.web_stream.specs.Reading.{Reading, step, given, with_kept, settled, faulty, after, payloads}
-use Rattle.web_stream.specs.Spelled.{IsBetween, ReadsFrames}
+use Rattle.web_stream.specs.Spelled.{IsBetween, ReadsFrames, AnswersPings, client_frame}
 use Rattle.web_stream.proofs.ReadingLemmas.{payloads_append, after_append, open_gives, open_steps}
 use Rattle.web_stream.proofs.NextLemmas.{short_asks, sound_asks}
 
@@ -274,3 +275,68 @@ reads_frames s first (k0 ∷ k1 ∷ k2 ∷ []) bs between reserved control sound
 reads_frames s first (k0 ∷ k1 ∷ k2 ∷ k3 ∷ []) bs between reserved control sound four fits =
     reads_form (ltb (length bs) 126) (ltb (length bs) 65536) s first k0 k1 k2 k3 bs refl refl between reserved control sound fits
 reads_frames s first (k0 ∷ k1 ∷ k2 ∷ k3 ∷ k4 ∷ ks) bs between reserved control sound four fits = absurd (omega arith)
+
+-- ---- a ping, all of which is kept
+
+masked_long : (key : List ℕ) (i : ℕ) (bs : List ℕ) → length (unmasked key i bs) ≡ length bs
+masked_long key i [] = refl
+masked_long key i (b ∷ bs) = ap suc (masked_long key (i + 1) bs)
+
+masked_twice : (key : List ℕ) (i : ℕ) (bs : List ℕ) → unmasked key i (unmasked key i bs) ≡ bs
+masked_twice key i [] = refl
+masked_twice key i (b ∷ bs) =
+    ap (λ (x : ℕ). x ∷ unmasked key (i + 1) (unmasked key (i + 1) bs)) (unmasked_twice b (get_or key (i % 4) 0))
+    ∙ ap (λ (l : List ℕ). b ∷ l) (masked_twice key (i + 1) bs)
+
+ping_sound : (is_within : Bool) (n : ℕ) → n ≤ 125 → head_fault is_within 137 (128 + n) ≡ None
+ping_sound is_within n few =
+    ap (λ (t : Bool). cond t (Some Unmasked) (cond (ltb 125 ((128 + n) % 128)) (Some Control) None)) (le-ltb (128 + n) 128 (omega arith))
+    ∙ ap (λ (t : Bool). cond t (Some Control) None) (le-ltb 125 ((128 + n) % 128) (omega arith))
+
+ping_kept : (n : ℕ) → n ≤ 125 → kept_size 4 137 (128 + n) ≡ 6 + n
+ping_kept n few =
+    let m : ℕ = (128 + n) % 128 in
+    let low : m ≡ n = omega arith in
+    let not_126 : m ≢ 126 = omega arith in
+    let not_127 : m ≢ 127 = omega arith in
+    ap (λ (t : Bool). 6 + cond t 2 (cond (eqb m 127) 8 0) + m) (ne_eqb m 126 not_126)
+    ∙ ap (λ (t : Bool). 6 + cond t 8 0 + m) (ne_eqb m 127 not_127) ∙ ap (λ (k : ℕ). 6 + k) low
+
+reads_ping : (s : Reading) (k0 k1 k2 k3 : ℕ) (bs : List ℕ) → IsBetween s → length bs ≤ 125
+    → (payloads s (client_frame 137 (k0 ∷ k1 ∷ k2 ∷ k3 ∷ []) bs) ≡ [])
+    × (after s (client_frame 137 (k0 ∷ k1 ∷ k2 ∷ k3 ∷ []) bs) ≡ record s { answer = Some (control_frame 138 bs) })
+unfolding holding
+reads_ping s k0 k1 k2 k3 bs between few =
+    let key : List ℕ = k0 ∷ k1 ∷ k2 ∷ k3 ∷ [] in
+    let masked : List ℕ = unmasked key 0 bs in
+    let n : ℕ = length bs in
+    let c : ℕ = 128 + n in
+    let rest : List ℕ = k1 ∷ k2 ∷ k3 ∷ masked in
+    let whole : List ℕ = 137 ∷ c ∷ k0 ∷ rest in
+    let sound : head_fault s.is_within 137 c ≡ None = ping_sound s.is_within n few in
+    let kept : kept_size 4 137 c ≡ 6 + n = ping_kept n few in
+    let long : length masked ≡ n = masked_long key 0 bs in
+    let fits : 2 + length (k0 ∷ rest) ≡ kept_size 4 137 c = omega arith in
+    let least : kept_size 4 137 c ≤ 131 = omega arith in
+    let begins : s ≡ holding s [] = ap (λ (l : List ℕ). let r : Reading = record s { kept = l } in r) between.kept in
+    let small : ltb n 126 ≡ true = lt-ltb n 126 (omega arith) in
+    let spelled : client_frame 137 key bs ≡ whole =
+    ap (λ (t : Bool). 137 ∷ (128 + cond t n (cond (ltb n 65536) 126 127)) ∷ (cond t [] (cond (ltb n 65536) (to_be_bytes w16 n) (to_be_bytes w64 n)) ++ key ++ masked)) small in
+    let asks : next_of_whole whole ≡ ping bs = ap (λ (l : List ℕ). ping l) (masked_twice key 0 bs) in
+    let gives : payloads s whole ≡ [] =
+    ap (λ (t : Reading). payloads t whole) begins ∙ head_gives s 137 c k0 rest between.over between.done sound least fits in
+    let passes : after s whole ≡ record s { kept = []; answer = Some (control_frame 138 bs) } =
+    ap (λ (t : Reading). after t whole) begins ∙ head_passes s 137 c k0 rest between.over between.done sound least fits
+    ∙ ap (settled (holding s whole)) asks in
+    (
+      ap (payloads s) spelled ∙ gives,
+      ap (after s) spelled ∙ passes ∙ ap (λ (l : List ℕ). let r : Reading = record s { kept = l; answer = Some (control_frame 138 bs) } in r) (sym between.kept),
+    )
+
+pub answers_pings : AnswersPings
+answers_pings s [] bs between four few = absurd (omega arith)
+answers_pings s (k0 ∷ []) bs between four few = absurd (omega arith)
+answers_pings s (k0 ∷ k1 ∷ []) bs between four few = absurd (omega arith)
+answers_pings s (k0 ∷ k1 ∷ k2 ∷ []) bs between four few = absurd (omega arith)
+answers_pings s (k0 ∷ k1 ∷ k2 ∷ k3 ∷ []) bs between four few = reads_ping s k0 k1 k2 k3 bs between few
+answers_pings s (k0 ∷ k1 ∷ k2 ∷ k3 ∷ k4 ∷ ks) bs between four few = absurd (omega arith)

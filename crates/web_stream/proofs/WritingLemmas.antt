@@ -1,10 +1,15 @@
 -- What writes below do to the payloads that were written.
-use Rattle.std.proofs.Common.{◌≡◌, ℕ, zero, suc, ◌+◌, ◌-◌, ◌^◌, ◌<◌, ◌≤◌, Bool, true, false, cond, ◌&&◌, eqb, leb, List, [], ◌∷◌, ◌++◌, length, take, drop, Option, None, Some, Result, Ok, Err, refl, sym, ap, subst, ◌∙◌, append_assoc, append-nil, eq-eqb, eqb-true, leb-false, le_of_lt, arith}
+use Rattle.std.proofs.Common.{◌≡◌, ℕ, zero, suc, ◌+◌, ◌-◌, ◌^◌, ◌<◌, ◌≤◌, Bool, true, false, cond, ◌&&◌, eqb, leb, List, [], ◌∷◌, ◌++◌, length, take, drop, Option, None, Some, unwrap_or, Result, Ok, Err, OnOk, refl, sym, ap, subst, ◌∙◌, append_assoc, append-nil, eq-eqb, eqb-true, leb-false, le_of_lt, arith}
+use Rattle.std.specs.Bool.{⊤}
 use Rattle.std.proofs.lemmas.Bool.{le-leb, leb-true, cond-true}
 use Rattle.std.proofs.lemmas.List.{length-append, length-take-le, drop-append-le, drop_all, nil_from_length, take-take}
 use Rattle.std.proofs.KnownBytes.{Keeps-refl, Keeps-trans, Appends-trans}
 use Rattle.std.specs.Io.KnownBytes.{Keeps, Appends, WriteAppends}
+use Rattle.web_stream.specs.declared.inward.Inward.{Inward}
+use Rattle.web_stream.specs.declared.stream.WebStream.{WebStream}
 use Rattle.web_stream.specs.Answers.{data_head, IsControlFrame}
+use Rattle.web_stream.specs.Standing.{reading_of}
+use Rattle.web_stream.specs.Stream.{own_bytes}
 use Rattle.web_stream.specs.Writing.{Writing, before, placed, carried, stands, known_payloads}
 use Rattle.web_stream.proofs.Heads.{placed_append, carried_append, placed_payload, carried_payload, Begins, control_begins, data_begins}
 
@@ -290,6 +295,29 @@ appends_behind a b c (Err e) bs p q = Keeps-trans a b c p q
 -- a write that took no payload
 pub keeps_from_none : (a b : Option (List ℕ)) (bs : List ℕ) → Appends a b (take 0 bs) → Keeps a b
 keeps_from_none a b bs p = keeps_from a b p
+
+-- ---- the server's own frames
+
+no_payload : (owed : ℕ) → owed ≤ 0 → eqb owed 0 ≡ true
+no_payload owed e = eq-eqb owed 0 (omega arith)
+
+-- what is left of a control frame, and then the answer that waited, was written
+pub own_written : {S E : Type 0} (contents : S → Option (List ℕ)) (old first second third : WebStream S) (r : Result ⊤ E)
+    → old.outward.owed ≤ 0 → Appends (contents old.stream) (contents first.stream) old.outward.own.items → first.inward ≡ old.inward
+    → second.stream ≡ first.stream → second.outward.own.items ≡ unwrap_or (reading_of first.inward).answer []
+    → OnOk r (Appends (contents second.stream) (contents third.stream) second.outward.own.items)
+    → OnOk r (Appends (contents old.stream) (contents third.stream) (own_bytes old))
+own_written contents old first second third (Err e) none p same stream answer q = tt
+own_written {S} {E} contents old first second third (Ok done) none p same stream answer q =
+    let waits : Inward → List ℕ = λ i. unwrap_or (reading_of i).answer [] in
+    let behind : Appends (contents first.stream) (contents third.stream) (waits old.inward) =
+    (let P : S → Type 0 = λ s. Appends (contents s) (contents third.stream) (waits old.inward) in
+    subst P stream
+    (let P : List ℕ → Type 0 = λ l. Appends (contents second.stream) (contents third.stream) l in
+    subst P (answer ∙ ap waits same) q)) in
+    let both = Appends-trans (contents old.stream) (contents first.stream) (contents third.stream) old.outward.own.items (waits old.inward) p behind in
+    (let P : List ℕ → Type 0 = λ l. Appends (contents old.stream) (contents third.stream) l in
+    subst P (sym (cond-true (eqb old.outward.owed 0) (old.outward.own.items ++ waits old.inward) [] (no_payload old.outward.owed none))) both)
 
 -- ---- what `grind` is given
 

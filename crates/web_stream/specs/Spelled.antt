@@ -1,6 +1,7 @@
--- The data frames that a client sends, and that they are read.
-use Rattle.std.specs.Prelude.{◌≡◌, ℕ, ◌+◌, ◌^◌, ◌<◌, ◌≤◌, false, nat_lt, if◌then◌else◌, List, [], ◌∷◌, ◌++◌, length, None}
+-- The frames that a client sends, and that they are read.
+use Rattle.std.specs.Prelude.{◌≡◌, ℕ, ◌+◌, ◌^◌, ◌<◌, ◌≤◌, false, nat_lt, if◌then◌else◌, List, [], ◌∷◌, ◌++◌, length, None, Some}
 use Rattle.std.specs.Int.{w16, w64, to_be_bytes}
+use Rattle.web_stream.specs.Answers.{control_frame}
 use Rattle.web_stream.specs.Frames.{is_control}
 use Rattle.web_stream.specs.Faults.{is_reserved, data_fault}
 use Rattle.web_stream.specs.Next.{unmasked}
@@ -29,3 +30,9 @@ ReadsFrames =
     (s : Reading) (first : ℕ) (key bs : List ℕ) → IsBetween s → is_reserved first ≡ false → is_control first ≡ false
     → data_fault s.is_within first ≡ None → length key ≡ 4 → length bs < 2 ^ 63
     → (payloads s (client_frame first key bs) ≡ bs) × IsBetween (after s (client_frame first key bs))
+
+-- 5.5.2 and 5.5.3: a ping, whose opcode is 9, gives no payload, and then its pong, whose opcode is 10 and which says the same, waits
+abbrev pub AnswersPings : Type 0
+AnswersPings =
+    (s : Reading) (key bs : List ℕ) → IsBetween s → length key ≡ 4 → length bs ≤ 125
+    → (payloads s (client_frame 137 key bs) ≡ []) × (after s (client_frame 137 key bs) ≡ record s { answer = Some (control_frame 138 bs) })

@@ -1,11 +1,11 @@
 -- What is known of a WebSocket by what is known of the stream below.
-use Rattle.std.specs.Prelude.{ℕ, ◌<◌, Bool, ◌&&◌, ◌||◌, not, ◌==◌, is_some, List, [], length, take, Option, None, Some, Result, Ok, Err, option_map}
+use Rattle.std.specs.Prelude.{◌≡◌, ℕ, ◌<◌, Bool, ◌&&◌, ◌||◌, not, ◌==◌, if◌then◌else◌, is_some, List, [], ◌++◌, length, take, Option, None, Some, unwrap_or, Result, Ok, Err, option_map}
 use Rattle.std.specs.Io.KnownBytes.{Consumes, Keeps, IsAtEnd}
 use Rattle.web_stream.specs.declared.fault.WebFault.{WebFault}
 use Rattle.web_stream.specs.declared.inward.Over.{Over}
 use Rattle.web_stream.specs.declared.inward.Over.TheVariants.{Closed, Fault}
 use Rattle.web_stream.specs.declared.stream.WebStream.{WebStream}
-use Rattle.web_stream.specs.Reading.{Reading, payloads}
+use Rattle.web_stream.specs.Reading.{Reading, after, payloads}
 use Rattle.web_stream.specs.Standing.{reading_of}
 use Rattle.web_stream.specs.Writing.{known_payloads}
 
@@ -35,6 +35,10 @@ fault_in w = fault_of w.inward.over
 abbrev pub owes_in : {S : Type 0} → WebStream S → Bool
 owes_in w = w.outward.owed == 0 && (is_some w.inward.answer || not (length w.outward.own.items == 0))
 
+-- what is to be written that is no payload: what is left of a control frame, and the answer that waits; nothing within a data frame
+abbrev pub own_bytes : {S : Type 0} → WebStream S → List ℕ
+own_bytes w = if w.outward.owed == 0 then w.outward.own.items ++ unwrap_or (reading_of w.inward).answer [] else []
+
 -- the last read of the stream below filled its room, or the frames are over
 abbrev pub has_more_in : {S : Type 0} → WebStream S → Bool
 has_more_in w = w.was_full || is_some w.inward.over
@@ -44,3 +48,7 @@ abbrev pub TakesPiece : {E : Type 0} → Option (List ℕ) → Option (List ℕ)
 TakesPiece old new (Ok None) room = Consumes old new [] × (0 < length room → IsAtEnd new)
 TakesPiece old new (Ok (Some n)) room = Consumes old new (take n room)
 TakesPiece old new (Err _) room = Keeps old new
+
+-- some bytes of the stream below were read, and the frames stand behind these
+abbrev pub ReadsOn : Option (List ℕ) → Option (List ℕ) → Reading → Reading → Type 0
+ReadsOn old new before now = (bs : List ℕ) × Consumes old new bs × (now ≡ after before bs)

@@ -15,6 +15,6 @@ mod stream;
 mod write_both;
 
 pub use fault::WebFault;
-pub use laws::reads_frames;
+pub use laws::{answers_pings, reads_frames};
 pub use stream::WebStream;
 pub use write_both::WriteBoth;

@@ -1,11 +1,12 @@
 //! A WebSocket as a stream.
 
-ghost use Rattle.std.specs.Prelude.{◌≡◌, ℕ, ◌<◌, ◌≤◌, List, [], None, Some, false, length, option_map, IfOk, IfSome, OnOk};
-ghost use Rattle.std.specs.Io.{WritesAtMost};
-ghost use Rattle.std.specs.Io.KnownBytes.{WriteAppends, Keeps, IsAtEnd};
+ghost use Rattle.std.specs.Prelude.{◌≡◌, ℕ, ◌<◌, ◌≤◌, List, [], None, Some, false, length, unwrap_or, option_map, IfOk, IfSome, OnOk};
+ghost use Rattle.std.specs.Io.{ReadsAtMost, WritesAtMost};
+ghost use Rattle.std.specs.Io.KnownBytes.{Appends, ReadConsumes, WriteAppends, Keeps, IsAtEnd};
 ghost use Rattle.web_stream.specs.Reading.{at_start, payloads, closed};
 ghost use Rattle.web_stream.specs.Stream.{remaining_in, contents_in, stream_in, reading_in, fault_in, owes_in, has_more_in};
-ghost use Rattle.web_stream.specs.Stream.{TakesPiece};
+ghost use Rattle.web_stream.specs.Stream.{TakesPiece, ReadsOn, own_bytes};
+ghost use Rattle.web_stream.specs.Standing.{reading_of};
 
 use crate::answer::data_head;
 use crate::fault::WebFault;
@@ -100,6 +101,7 @@ impl<S: Read> WebStream<S> {
     fn take_piece(&mut self, room: &mut [u8]) -> io::Result<Option<usize>>
         ensures bound { IfOk result (λ count. IfSome count (λ n. n ≤ length room.new)) }
         ensures bytes { TakesPiece (remaining_in S.remaining self.old) (remaining_in S.remaining self.new) result room.new }
+        ensures reading { ReadsOn (S.remaining self.old.stream) (S.remaining self.new.stream) (reading_of self.old.inward) (reading_of self.new.inward) }
     {
         let mut all = [0u8; PIECE];
         let most = room.len().min(PIECE);
@@ -133,7 +135,11 @@ impl<S: Read> Read for WebStream<S> {
     /// Reads payload, by one read of the stream below at most. Fails as `Interrupted` where that gave none and more may come, and as
     /// `InvalidData` where the client did wrong. At a close it is at its end.
     #[tactic(auto, using(crate::proofs::StreamLemmas::nothing))]
-    fn read(&mut self, room: &mut [u8]) -> io::Result<usize> {
+    fn read(&mut self, room: &mut [u8]) -> io::Result<usize>
+        ensures bound { ReadsAtMost result room.new }
+        ensures bytes { ReadConsumes (remaining_in S.remaining self.old) (remaining_in S.remaining self.new) result room.new }
+        ensures reading { ReadsOn (S.remaining self.old.stream) (S.remaining self.new.stream) (reading_of self.old.inward) (reading_of self.new.inward) }
+    {
         if self.inward.over().is_some() {
             return self.without_payload();
         }
@@ -167,6 +173,8 @@ impl<S: WriteBoth> WebStream<S> {
         ensures kept { Keeps (contents_in S.contents self.old) (contents_in S.contents self.new) }
         ensures owed { self.new.outward.owed ≡ 0 }
         ensures taken { self.new.inward.answer ≡ None }
+        ensures stream { self.new.stream ≡ self.old.stream }
+        ensures own { self.new.outward.own.items ≡ unwrap_or (reading_of self.old.inward).answer [] }
     {
         if let Some(answer) = self.inward.take_answer() {
             self.outward.own = answer.frame();
@@ -179,6 +187,7 @@ impl<S: WriteBoth> WebStream<S> {
         ensures kept { Keeps (contents_in S.contents self.old) (contents_in S.contents self.new) }
         ensures owed { self.new.outward.owed ≡ self.old.outward.owed }
         ensures whole { OnOk result (self.new.outward.own.items ≡ []) }
+        ensures own { OnOk result (Appends (S.contents self.old.stream) (S.contents self.new.stream) self.old.outward.own.items) }
         ensures inward { self.new.inward ≡ self.old.inward }
     {
         if self.outward.own.is_empty() {
@@ -201,6 +210,7 @@ impl<S: WriteBoth> WebStream<S> {
         ensures kept { Keeps (contents_in S.contents self.old) (contents_in S.contents self.new) }
         ensures whole { OnOk result (self.new.outward.owed ≡ 0 → self.new.outward.own.items ≡ []) }
         ensures written { OnOk result (owes_in self.new ≡ false) }
+        ensures own { OnOk result (Appends (S.contents self.old.stream) (S.contents self.new.stream) (own_bytes self.old)) }
     {
         if self.outward.owed > 0 {
             return Ok(());
@@ -260,11 +270,12 @@ impl<S: WriteBoth> Write for WebStream<S> {
         self.write_frame(bytes)
     }
 
-    /// Writes the pong or the close that waits, unless a data frame is on its way, and flushes the stream below. Where that goes well none
-    /// waits any more that could be written.
+    /// Writes the pong or the close that waits, and nothing else, unless a data frame is on its way, and flushes the stream below. Where that
+    /// goes well none waits any more that could be written.
     fn flush(&mut self) -> io::Result<()>
         ensures kept { Keeps (contents_in S.contents self.old) (contents_in S.contents self.new) }
         ensures written { OnOk result (owes_in self.new ≡ false) }
+        ensures own { OnOk result (Appends (S.contents self.old.stream) (S.contents self.new.stream) (own_bytes self.old)) }
     {
         self.write_answer()?;
         self.stream.flush()
