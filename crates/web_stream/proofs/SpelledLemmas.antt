@@ -327,8 +327,7 @@ reads_ping s k0 k1 k2 k3 bs between few =
     ap (λ (t : Reading). payloads t whole) begins ∙ head_gives s 137 c k0 rest between.over between.done sound least fits in
     let passes : after s whole ≡ record s { kept = []; answer = Some (control_frame 138 bs) } =
     ap (λ (t : Reading). after t whole) begins ∙ head_passes s 137 c k0 rest between.over between.done sound least fits
-    ∙ ap (settled (holding s whole)) asks in
-    (
+    ∙ ap (settled (holding s whole)) asks in (
       ap (payloads s) spelled ∙ gives,
       ap (after s) spelled ∙ passes ∙ ap (λ (l : List ℕ). let r : Reading = record s { kept = l; answer = Some (control_frame 138 bs) } in r) (sym between.kept),
     )
