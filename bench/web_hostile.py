@@ -1,0 +1,168 @@
+#!/usr/bin/env python3
+"""web_hostile.py PROGRAM [--rounds 3] [--seconds 2]: what browsers that mean no good leave to others, at `vncdemo serve --one-thread --web`.
+
+One viewer over TCP asks for one whole update of 640 by 480 after another, alone, and then while browsers do their worst; a cell is the
+median of the rounds. The status is 1 where less than 0.95 is left to it, and of what comes without end 0.80."""
+import argparse
+import multiprocessing
+import random
+import selectors
+import socket
+import struct
+import sys
+import time
+
+from browsers import KEY, RAW, Browser, Server, Viewer, frame, median, request
+
+WIDTH, HEIGHT = 640, 480
+WHOLE = struct.pack(">BBHHHH", 3, 0, 0, 0, WIDTH, HEIGHT)
+FLOOD, OTHER = 0.80, 0.95
+
+
+def opened(web, count):
+    browsers = [Browser(web) for _ in range(count)]
+    for browser in browsers:
+        browser.open()
+    return [browser.stream for browser in browsers]
+
+
+def pour(streams, piece, reads=True):
+    """Sends a piece to each stream over and over, as it takes it, and forgets what comes."""
+    selector, left = selectors.DefaultSelector(), {}
+    for stream in streams:
+        stream.setblocking(False)
+        left[stream] = piece
+        selector.register(stream, selectors.EVENT_WRITE | (selectors.EVENT_READ if reads else 0))
+    while True:
+        for key, found in selector.select():
+            stream = key.fileobj
+            try:
+                if found & selectors.EVENT_READ:
+                    stream.recv(1 << 16)
+                if found & selectors.EVENT_WRITE:
+                    left[stream] = left[stream][stream.send(left[stream]):] or piece
+            except BlockingIOError:
+                pass
+
+
+def pings(web):
+    pour(opened(web, 8), frame(b"p" * 125, opcode=9) * 500)
+
+
+def unread_pings(web):
+    pour(opened(web, 8), frame(b"p" * 125, opcode=9) * 500, reads=False)
+
+
+def bytes_in_frames(web):
+    pointer = b"\x05" + bytes(5)
+    pour(opened(web, 8), b"".join(frame(pointer[k : k + 1]) for k in range(6)) * 2000)
+
+
+def empty_fragments(web):
+    streams = opened(web, 8)
+    for stream in streams:
+        stream.sendall(frame(b"", final=False))
+    pour(streams, frame(b"", opcode=0, final=False) * 10_000)
+
+
+def wholes(web):
+    pour(opened(web, 8), frame(RAW) + frame(WHOLE) * 5000, reads=False)
+
+
+def comers(web, said):
+    """Forty connections at once that say something, and go."""
+    while True:
+        streams = [socket.create_connection(("127.0.0.1", web)) for _ in range(40)]
+        for stream in streams:
+            try:
+                stream.sendall(said())
+            except OSError:
+                pass
+        for stream in streams:
+            stream.close()
+
+
+def nonsense(web):
+    chance = random.Random(1)
+    comers(web, lambda: chance.randbytes(100))
+
+
+def refused(web):
+    comers(web, lambda: request(web, "Origin: http://foreign.example"))
+
+
+def broken(web):
+    comers(web, lambda: request(web) + frame(b"x", opcode=3))
+
+
+def heads(web):
+    """Forty requests whose heads have no end, a byte each 10 milliseconds."""
+    streams = [socket.create_connection(("127.0.0.1", web)) for _ in range(40)]
+    for stream in streams:
+        stream.sendall(b"GET / HTTP/1.1\r\nSec-WebSocket-Key: " + KEY.encode() + b"\r\nX: ")
+    while True:
+        for stream in streams:
+            try:
+                stream.sendall(b"x")
+            except OSError:
+                pass
+        time.sleep(0.01)
+
+
+ATTACKS = [
+    ("eight ping without end", pings, FLOOD),
+    ("eight ping without end, and never read", unread_pings, FLOOD),
+    ("eight move the pointer without end, a byte in each frame", bytes_in_frames, FLOOD),
+    ("eight send empty fragments without end", empty_fragments, FLOOD),
+    ("eight ask for all without end, and never read", wholes, FLOOD),
+    ("forty of nonsense come and go", nonsense, OTHER),
+    ("forty of a foreign page come and go", refused, OTHER),
+    ("forty whose frames are wrong come and go", broken, OTHER),
+    ("forty requests have no end", heads, OTHER),
+]
+
+
+def rate(viewer, seconds):
+    count, began = 0, time.monotonic()
+    while time.monotonic() - began < seconds:
+        viewer.stream.sendall(WHOLE)
+        viewer.take(16 + 4 * WIDTH * HEIGHT)
+        count += 1
+    return count / (time.monotonic() - began)
+
+
+def share(program, attack, seconds):
+    server = Server(program, WIDTH, HEIGHT)
+    viewer = Viewer(server.port)
+    viewer.open()
+    viewer.stream.sendall(RAW)
+    alone = rate(viewer, seconds)
+    attacker = multiprocessing.Process(target=attack, args=(server.web,), daemon=True)
+    attacker.start()
+    time.sleep(0.5)
+    attacked = rate(viewer, seconds)
+    fell = not attacker.is_alive()
+    attacker.kill()
+    attacker.join()
+    viewer.stream.close()
+    server.end()
+    return attacked / alone, fell
+
+
+def main():
+    words = argparse.ArgumentParser(description=__doc__)
+    words.add_argument("program")
+    words.add_argument("--rounds", type=int, default=3)
+    words.add_argument("--seconds", type=float, default=2)
+    chosen, failed = words.parse_args(), False
+    print("| what browsers do | goal | left |\n|---|---|---|")
+    for name, attack, goal in ATTACKS:
+        found = [share(chosen.program, attack, chosen.seconds) for _ in range(chosen.rounds)]
+        left = median([part for part, _ in found])
+        failed |= left < goal or any(fell for _, fell in found)
+        print(f"| {name} | {goal:.2f} | {left:.2f}{', and an attacker fell' if any(fell for _, fell in found) else ''} |", flush=True)
+    return failed
+
+
+if __name__ == "__main__":
+    sys.exit(main())
