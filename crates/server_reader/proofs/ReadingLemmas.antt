@@ -1,5 +1,5 @@
 -- The laws of the reading.
-use Rattle.std.proofs.Common.{◌≡◌, ℕ, zero, suc, ◌+◌, ◌-◌, ◌≤◌, Bool, true, false, cond, List, [], ◌++◌, length, Option, None, Some, refl, sym, ap, subst, ◌∙◌, arith, append_assoc, append-nil}
+use Rattle.std.proofs.Common.{◌≡◌, ℕ, zero, suc, ◌+◌, ◌-◌, Bool, true, false, cond, List, [], ◌++◌, length, Option, None, Some, refl, sym, ap, ◌∙◌, arith, append-nil}
 use Rattle.std.proofs.lemmas.Bool.{and_parts, eqb-true}
 use Rattle.std.proofs.lemmas.List.{nil_from_length}
 use Rattle.encode_raw.specs.Reading.{◌>>=◌, bytes_at, Dot, Shown, is_inside}
@@ -8,34 +8,12 @@ use Rattle.server_reader.specs.declared.step.Step.TheVariants as step
 use Rattle.server_reader.specs.declared.stage.Size.{Size}
 use Rattle.server_reader.specs.declared.stage.Stage.{Stage}
 use Rattle.server_reader.specs.declared.stage.Stage.TheVariants as stage
-use Rattle.server_reader.specs.Stages.{display, rest_of, Point, Same}
+use Rattle.server_reader.specs.Stages.{display, rest_of}
 use Rattle.server_reader.specs.Steps.{View, shown_after, colours_after, Standing, GoesOn, HasNoReading, is_message, is_between}
 use Rattle.server_reader.specs.Readings.{start, ReadsAsTheRfc}
+use Rattle.server_reader.specs.StandingLemmas.{goes_on_itself, goes_on_through, goes_on_with}
 use Rattle.server_reader.proofs.EndLemmas.{some_reading}
 use Rattle.server_reader.specs.Pictures.{HasColour, drawn_agrees}
-
--- ---- steps one after the other
-
-goes_on_itself : (s : Standing) → GoesOn s s
-goes_on_itself s later n room = record { left = n; room = room; is = refl }
-
-goes_on_through : (p q r : Standing) → GoesOn p q → GoesOn q r → GoesOn p r
-goes_on_through p q r first second later n room =
-    let a = first later n room in
-    let b = second later a.left a.room in
-    record { left = b.left; room = b.room; is = a.is ∙ b.is }
-
--- a further piece stands behind what is left of the one before
-goes_on_with : (p q : Standing) (next : List ℕ) → GoesOn p q → GoesOn (record p { left = p.left ++ next }) (record q { left = q.left ++ next })
-goes_on_with p q next goes later n room =
-    let before : List ℕ → Point = λ bytes. record { state = p.view.state; shown = p.shown; colours = p.colours; bytes = p.view.held ++ bytes } in
-    let after : List ℕ → Point = λ bytes. record { state = q.view.state; shown = q.shown; colours = q.colours; bytes = q.view.held ++ bytes } in
-    let p_one : p.left ++ next ++ later ≡ p.left ++ (next ++ later) = append_assoc p.left next later in
-    let q_one : q.left ++ next ++ later ≡ q.left ++ (next ++ later) = append_assoc q.left next later in
-    let P : List ℕ → Type 0 = λ bytes. length (p.view.held ++ bytes) ≤ n in
-    let Q : List ℕ → Type 0 = λ bytes. Same n (before (p.left ++ next ++ later)) (after bytes) in
-    let R : List ℕ → Type 0 = λ bytes. Same n (before bytes) (after (q.left ++ (next ++ later))) in
-    subst Q (sym q_one) (subst R (sym p_one) (goes (next ++ later) n (subst P p_one room)))
 
 -- ---- what is shown
 

@@ -42,6 +42,11 @@ StepIsOn size (step.Fill a pixel) = IsOn size a
 StepIsOn size (step.Copy a from_x from_y) = IsOn size a × IsOn size (record a { x = from_x; y = from_y })
 StepIsOn size _ = Unit {0}
 
+-- 7.8.2: the picture's size behind a step
+abbrev pub size_after : Step → Size → Size
+size_after (step.Size width height) size = record { width = width; height = height }
+size_after _ size = size
+
 abbrev pub ends_update : Step → Bool
 ends_update step.UpdateEnd = true
 ends_update _ = false

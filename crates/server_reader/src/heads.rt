@@ -3,7 +3,7 @@
 ghost use Rattle.std.specs.Prelude.{◌≡◌, ℕ, ◌+◌, ◌^◌, ◌<◌, List, length, slice_index, IfOk, IfErr};
 ghost use Rattle.server_reader.specs.declared.stage.Size.{Size};
 ghost use Rattle.server_reader.specs.Heard.{HearsAt};
-ghost use Rattle.server_reader.specs.OnPicture.{StageIsOn, TurnIsOn};
+ghost use Rattle.server_reader.specs.OnPicture.{StageIsOn, TurnIsOn, size_after};
 ghost use Rattle.viewer_picture.specs.Messages.{Display, rectangles_at};
 ghost use Rattle.server_reader.specs.Groups.{message_length};
 ghost use Rattle.server_reader.specs.Stages.{rest_of, entries_rest};
@@ -57,6 +57,7 @@ pub(crate) fn read_message<'a>(size: Size, head: &[u8]) -> Result<Turn<'a>, Read
     ensures read { IsRead (state_at size Stage.Message) head.now result }
     ensures heard { IfOk result (λ turn. HearsAt Stage.Message head.now turn.step) }
     ensures on { IfOk result (λ turn. TurnIsOn turn) }
+    ensures sized { IfOk result (λ turn. turn.state.size ≡ size_after turn.step size) }
     ensures why { IfErr result (λ fault. IsFaultOf size Stage.Message head.now fault) }
 {
     match head[0] {
@@ -97,6 +98,7 @@ pub(crate) fn read_entry<'a>(size: Size, entries: MapEntries, bytes: &[u8]) -> T
     ensures read { IsTurn (state_at size (Stage.MapEntries entries)) bytes.now result }
     ensures heard { HearsAt (Stage.MapEntries entries) bytes.now result.step }
     ensures on { TurnIsOn result }
+    ensures sized { result.state.size ≡ size_after result.step size }
 {
     let step = Step::MapEntry {
         entry: entries.next,

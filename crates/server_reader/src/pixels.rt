@@ -3,7 +3,7 @@
 ghost use Rattle.std.specs.Prelude.{◌≡◌, ℕ, ◌+◌, ◌*◌, ◌^◌, ◌<◌, ◌≤◌, List, length, Some};
 ghost use Rattle.server_reader.specs.declared.stage.Size.{Size};
 ghost use Rattle.server_reader.specs.Heard.{HearsAt};
-ghost use Rattle.server_reader.specs.OnPicture.{IsOn, BehindIsOn, StageIsOn, TurnIsOn};
+ghost use Rattle.server_reader.specs.OnPicture.{IsOn, BehindIsOn, StageIsOn, TurnIsOn, size_after};
 ghost use Rattle.pixel_translate.specs.Pixel.{server_format};
 ghost use Rattle.encode_raw.specs.Reading.{patched, raw_at};
 ghost use Rattle.viewer_picture.specs.Messages.{Display, written};
@@ -122,6 +122,7 @@ pub(crate) fn read_pixel<'a>(size: Size, rows: PixelRows, bytes: &[u8]) -> Turn<
     ensures read { IsTurn (state_at size (Stage.Pixels rows)) bytes.now result }
     ensures heard { HearsAt (Stage.Pixels rows) bytes.now result.step }
     ensures on { StageIsOn size (Stage.Pixels rows) → TurnIsOn result }
+    ensures sized { result.state.size ≡ size_after result.step size }
 {
     let area = rows.run(1);
     let pixel = pixel_at(bytes, 0);

@@ -5,7 +5,7 @@ ghost use Rattle.server_reader.specs.declared.fault.ReadFault.{ReadFault};
 ghost use Rattle.server_reader.specs.Faults.{IsFaultOf, IsFaultIn};
 ghost use Rattle.server_reader.specs.Groups.{needed};
 ghost use Rattle.server_reader.specs.Heard.{HearsAt};
-ghost use Rattle.server_reader.specs.OnPicture.{StageIsOn, StepIsOn, ends_update, TurnIsOn};
+ghost use Rattle.server_reader.specs.OnPicture.{StageIsOn, StepIsOn, ends_update, TurnIsOn, size_after};
 ghost use Rattle.server_reader.specs.Steps.{IsRead, opened, IsStep, IsKept, IsNoMessage, work_left, is_update_end, is_between};
 
 use crate::fault::ReadFault;
@@ -51,6 +51,7 @@ fn read_group<'a>(state: State, group: &[u8]) -> Result<Turn<'a>, ReadFault>
     ensures read { IsRead state group.now result }
     ensures heard { IfOk result (λ turn. HearsAt state.stage group.now turn.step) }
     ensures on { StageIsOn state.size state.stage → IfOk result (λ turn. TurnIsOn turn) }
+    ensures sized { IfOk result (λ turn. turn.state.size ≡ size_after turn.step state.size) }
     ensures why { IfErr result (λ fault. IsFaultOf state.size state.stage group.now fault) }
 {
     let size = state.size;
@@ -106,6 +107,8 @@ impl Reader {
         ensures on { IfSome result (λ next. StepIsOn self.new.state.size next.step) }
         ensures ended { IfSome result (λ next. ends_update next.step ≡ false) }
         ensures kept { IfNone result (IsKept self.old piece.now self.new) }
+        ensures sized { IfSome result (λ next. self.new.state.size ≡ size_after next.step self.old.state.size) }
+        ensures same { IfNone result (self.new.state.size ≡ self.old.state.size) }
         ensures less { IfSome result (λ next. work_left self.new next.rest.now < work_left self.old piece.now) }
     {
         if piece.is_empty() {
@@ -129,6 +132,7 @@ impl Reader {
         ensures step { IsStep self.old piece.now result self.new }
         ensures on { StepIsOn self.new.state.size result.step }
         ensures ended { ends_update result.step ≡ false }
+        ensures sized { self.new.state.size ≡ size_after result.step self.old.state.size }
         ensures less { work_left self.new result.rest.now < work_left self.old piece.now }
     {
         let area = rows.run(piece.len() / PIXEL);
@@ -147,6 +151,7 @@ impl Reader {
         ensures step { IsStep self.old piece.now result self.new }
         ensures on { StepIsOn self.new.state.size result.step }
         ensures ended { is_between self.new ≡ true }
+        ensures sized { self.new.state.size ≡ size_after result.step self.old.state.size }
         ensures less { work_left self.new result.rest.now < work_left self.old piece.now }
     {
         self.state.stage = Stage::Message;
@@ -165,6 +170,7 @@ impl Reader {
         ensures read { IsRead self.old.state (self.old.held ++ last.now) result }
         ensures heard { IfOk result (λ turn. HearsAt self.old.state.stage (self.old.held ++ last.now) turn.step) }
         ensures on { IfOk result (λ turn. TurnIsOn turn) }
+        ensures sized { IfOk result (λ turn. turn.state.size ≡ size_after turn.step self.old.state.size) }
         ensures why { IfErr result (λ fault. IsFaultOf self.old.state.size self.old.state.stage (self.old.held ++ last.now) fault) }
         ensures held { self.new ≡ record self.old { held = [] } }
     {
@@ -185,6 +191,8 @@ impl Reader {
         ensures on { IfOk result (λ found. IfSome found (λ next. StepIsOn self.new.state.size next.step)) }
         ensures ended { IfOk result (λ found. IfSome found (λ next. ends_update next.step ≡ true → is_between self.new ≡ true)) }
         ensures kept { IfOk result (λ found. IfNone found (IsKept self.old piece.now self.new)) }
+        ensures sized { IfOk result (λ found. IfSome found (λ next. self.new.state.size ≡ size_after next.step self.old.state.size)) }
+        ensures same { IfOk result (λ found. IfNone found (self.new.state.size ≡ self.old.state.size)) }
         ensures fault { IfErr result (λ _. IsNoMessage self.old piece.now) }
         ensures why { IfErr result (λ fault. IsFaultIn self.old piece.now fault) }
         ensures less { IfOk result (λ found. IfSome found (λ next. work_left self.new next.rest.now < work_left self.old piece.now)) }
@@ -213,6 +221,8 @@ impl Reader {
         ensures on { IfOk result (λ found. IfSome found (λ next. StepIsOn self.new.state.size next.step)) }
         ensures ended { IfOk result (λ found. IfSome found (λ next. ends_update next.step ≡ true → is_between self.new ≡ true)) }
         ensures kept { IfOk result (λ found. IfNone found (IsKept self.old piece.now self.new)) }
+        ensures sized { IfOk result (λ found. IfSome found (λ next. self.new.state.size ≡ size_after next.step self.old.state.size)) }
+        ensures same { IfOk result (λ found. IfNone found (self.new.state.size ≡ self.old.state.size)) }
         ensures fault { IfErr result (λ _. IsNoMessage self.old piece.now) }
         ensures why { IfErr result (λ fault. IsFaultIn self.old piece.now fault) }
         ensures less { IfOk result (λ found. IfSome found (λ next. work_left self.new next.rest.now < work_left self.old piece.now)) }
@@ -240,6 +250,8 @@ impl Reader {
         ensures on { IfOk result (λ found. IfSome found (λ next. StepIsOn self.new.state.size next.step)) }
         ensures ended { IfOk result (λ found. IfSome found (λ next. ends_update next.step ≡ true → is_between self.new ≡ true)) }
         ensures kept { IfOk result (λ found. IfNone found (IsKept self.old piece.now self.new)) }
+        ensures sized { IfOk result (λ found. IfSome found (λ next. self.new.state.size ≡ size_after next.step self.old.state.size)) }
+        ensures same { IfOk result (λ found. IfNone found (self.new.state.size ≡ self.old.state.size)) }
         ensures fault { IfErr result (λ _. IsNoMessage self.old piece.now) }
         ensures why { IfErr result (λ fault. IsFaultIn self.old piece.now fault) }
         ensures stopped { IfErr result (λ fault. self.new.state.stage ≡ Stage.Faulted fault) }

@@ -3,7 +3,7 @@
 ghost use Rattle.std.specs.Prelude.{◌≡◌, ℕ, true, false, ◌+◌, ◌-◌, ◌^◌, ◌<◌, List, length, IfOk, IfErr, IfSome, IfNone};
 ghost use Rattle.server_reader.specs.declared.stage.Size.{Size};
 ghost use Rattle.server_reader.specs.Heard.{HearsAt};
-ghost use Rattle.server_reader.specs.OnPicture.{IsOn, StageIsOn, TurnIsOn};
+ghost use Rattle.server_reader.specs.OnPicture.{IsOn, StageIsOn, TurnIsOn, size_after};
 ghost use Rattle.messages.specs.Grammar.{is_desktop_size};
 ghost use Rattle.viewer_picture.specs.Messages.{Display, is_in_picture, may_come, rectangles_at};
 ghost use Rattle.server_reader.specs.Stages.{listed, agreed, part_of, rest_of, IsDataStage, rectangles_behind, rre_parts_onto};
@@ -53,6 +53,7 @@ fn resized<'a>(area: Area, behind: u16) -> Turn<'a>
     ensures state { result.state ≡ state_at (record { width = area.w; height = area.h }) result.state.stage }
     ensures stage { (d : Display) (bytes : List ℕ) → rest_of result.state.stage d bytes ≡ rectangles_at behind d bytes }
     ensures on { TurnIsOn result }
+    ensures sized { (size : Size) → result.state.size ≡ size_after result.step size }
 {
     let size = Size {
         width: area.w,
@@ -95,6 +96,7 @@ pub(crate) fn read_rectangle<'a>(
     ensures read { IsRead (state_at size (Stage.Rectangle behind)) head.now result }
     ensures heard { IfOk result (λ turn. HearsAt (Stage.Rectangle behind) head.now turn.step) }
     ensures on { IfOk result (λ turn. TurnIsOn turn) }
+    ensures sized { IfOk result (λ turn. turn.state.size ≡ size_after turn.step size) }
     ensures why { IfErr result (λ fault. IsFaultOf size (Stage.Rectangle behind) head.now fault) }
 {
     let area = area_in(head, 0);
@@ -124,6 +126,7 @@ pub(crate) fn read_source<'a>(
     ensures read { IsRead (state_at size (Stage.Source rectangle)) bytes.now result }
     ensures heard { IfOk result (λ turn. HearsAt (Stage.Source rectangle) bytes.now turn.step) }
     ensures on { IsOn size rectangle.area → IfOk result (λ turn. TurnIsOn turn) }
+    ensures sized { IfOk result (λ turn. turn.state.size ≡ size_after turn.step size) }
     ensures why { IfErr result (λ fault. IsFaultOf size (Stage.Source rectangle) bytes.now fault) }
 {
     let area = rectangle.area;
@@ -157,6 +160,7 @@ pub(crate) fn read_rre<'a>(size: Size, rectangle: Rectangle, bytes: &[u8]) -> Tu
     ensures read { IsTurn (state_at size (Stage.Rre rectangle)) bytes.now result }
     ensures heard { HearsAt (Stage.Rre rectangle) bytes.now result.step }
     ensures on { IsOn size rectangle.area → TurnIsOn result }
+    ensures sized { result.state.size ≡ size_after result.step size }
 {
     let stage = next_part(rectangle, be32_at(bytes, 0));
     let step = Step::Fill {
@@ -190,6 +194,7 @@ pub(crate) fn read_rre_part<'a>(size: Size, parts: RreParts, bytes: &[u8]) -> Tu
     ensures read { IsTurn (state_at size (Stage.RreParts parts)) bytes.now result }
     ensures heard { HearsAt (Stage.RreParts parts) bytes.now result.step }
     ensures on { IsOn size parts.rectangle.area → TurnIsOn result }
+    ensures sized { result.state.size ≡ size_after result.step size }
 {
     let step = Step::Fill {
         area: part_of(parts.rectangle.area, area_in(bytes, 4)),

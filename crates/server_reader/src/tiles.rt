@@ -3,7 +3,7 @@
 ghost use Rattle.std.specs.Prelude.{◌≡◌, ℕ, ◌+◌, ◌-◌, ◌*◌, ◌<◌, ◌≤◌, min, true, false, if◌then◌else◌, List, length, slice_index, None, Some, IsSome, IfOk, IfErr};
 ghost use Rattle.server_reader.specs.declared.stage.Size.{Size};
 ghost use Rattle.server_reader.specs.Heard.{HearsAt};
-ghost use Rattle.server_reader.specs.OnPicture.{IsOn, StageIsOn, TurnIsOn};
+ghost use Rattle.server_reader.specs.OnPicture.{IsOn, StageIsOn, TurnIsOn, size_after};
 ghost use Rattle.pixel_translate.specs.Pixel.{server_format};
 ghost use Rattle.encode_hextile.specs.Hextile.{nothing};
 ghost use Rattle.encode_hextile.specs.Reading.{has_bit, hextile_at};
@@ -181,6 +181,7 @@ pub(crate) fn read_tile<'a>(size: Size, tile: TileAt, head: &[u8]) -> Result<Tur
     ensures read { IsRead (state_at size (Stage.Tile tile)) head.now result }
     ensures heard { IfOk result (λ turn. HearsAt (Stage.Tile tile) head.now turn.step) }
     ensures on { IsOn size tile.rectangle.area → IfOk result (λ turn. TurnIsOn turn) }
+    ensures sized { IfOk result (λ turn. turn.state.size ≡ size_after turn.step size) }
     ensures why { IfErr result (λ fault. IsFaultOf size (Stage.Tile tile) head.now fault) }
 {
     let bits = head[0];
@@ -233,6 +234,7 @@ fn part_turn<'a>(size: Size, parts: TileParts, pixel: u32, place: u8, extent: u8
         ≡ tiles_at_behind parts.tile (left_by parts.coloured parts.tile.carried) d
         (tile_parts_onto (tile_area parts.tile.rectangle.area (tile_of parts.tile)) parts.coloured parts.tile.carried.foreground (parts.left - 1) d.shown bytes) }
     ensures on { IsOn size parts.tile.rectangle.area → TurnIsOn result }
+    ensures sized { result.state.size ≡ size_after result.step size }
 {
     let area = part_of(places_of(parts.tile), part_in(place, extent));
     let stage = next_part(parts.tile, parts.coloured, parts.left - 1);
@@ -248,6 +250,7 @@ pub(crate) fn read_tile_part<'a>(size: Size, parts: TileParts, bytes: &[u8]) -> 
     ensures read { IsTurn (state_at size (Stage.TileParts parts)) bytes.now result }
     ensures heard { HearsAt (Stage.TileParts parts) bytes.now result.step }
     ensures on { IsOn size parts.tile.rectangle.area → TurnIsOn result }
+    ensures sized { result.state.size ≡ size_after result.step size }
 {
     if parts.coloured {
         return part_turn(size, parts, pixel_at(bytes, 0), bytes[4], bytes[5]);

@@ -1,0 +1,4 @@
+pub mod Painting
+pub mod Texts
+pub mod Asking
+pub mod Mirroring
