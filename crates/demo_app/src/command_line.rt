@@ -7,13 +7,16 @@ ghost use Rattle.clap.specs.Values.{kind_of};
 ghost use Rattle.demo_app.specs.CommandLine.{HasViewers};
 ghost use Rattle.demo_app.specs.declared.command_line.Chosen.TheVariants as chosen;
 
+use crate::mirror_line::{is_mirror, mirror_line};
 use crate::serve::ServeOptions;
 use clap::error::ErrorKind;
 use clap::{Arg, ArgAction, ArgMatches, Command, Error, value_parser};
 use event_loop::LetIn;
 use listed::Listed;
+use mirror::MirrorOptions;
 use replay::{Asked, Question};
 use std::alloc::{AllocError, Global};
+use std::net::SocketAddr;
 
 /// The port for browsers, and who is let in there.
 #[derive(Drop)]
@@ -57,6 +60,12 @@ pub enum Chosen {
     Replay {
         file: String,
         asked: Asked,
+    },
+    /// Another server's picture is served on an address.
+    Mirror {
+        listen: SocketAddr,
+        web: Option<WebPort>,
+        options: MirrorOptions,
     },
 }
 
@@ -131,11 +140,12 @@ Status: 0; 2 after a refused command line, and after this text; 3 after want of 
 4 where a viewer doesn't show the screen, or the check failed; 5 after a network fault,
 and after a write that failed.";
 
-/// What `--help` says of `serve` and `self`, whose options are read by commands of their own.
+/// What `--help` says of the commands but `play`, whose options are read by commands of their own.
 const OTHER_HELP: &str =
     "  serve  shows a screen to viewers over TCP; `vncdemo serve --help` tells its options
   self   serves viewers of its own; `vncdemo self --help` tells its options
-  replay reads a recorded session; `vncdemo replay --help` tells its options";
+  replay reads a recorded session; `vncdemo replay --help` tells its options
+  mirror shows another server's picture; `vncdemo mirror --help` tells its options";
 
 /// What is said to more viewers than threads serve.
 const TOO_MANY: &str = "more than 64 viewers are served by '--one-thread' alone";
@@ -170,12 +180,12 @@ memory; 5 where FILE can't be read, after a write that failed, and after a line 
 than 2^27 bytes.";
 
 /// Returns an option that takes a value.
-fn option<'a>(alloc: Global, name: &'a str, help: &'a str) -> Arg<'a> {
+pub(crate) fn option<'a>(alloc: Global, name: &'a str, help: &'a str) -> Arg<'a> {
     Arg::new(alloc, name).long(name).help(help)
 }
 
 /// Returns an option that takes none.
-fn flag<'a>(alloc: Global, name: &'a str, help: &'a str) -> Arg<'a> {
+pub(crate) fn flag<'a>(alloc: Global, name: &'a str, help: &'a str) -> Arg<'a> {
     option(alloc, name, help).action(ArgAction::SetTrue)
 }
 
@@ -249,14 +259,13 @@ fn with_viewers<'a>(alloc: Global, command: Command<'a>) -> Result<Command<'a>, 
         .arg(one_thread_option(alloc))
 }
 
-/// Adds those that say where browsers connect, and who is let in.
-fn with_web<'a>(alloc: Global, command: Command<'a>) -> Result<Command<'a>, AllocError> {
-    let web = option(
-        alloc,
-        "web",
-        "a port for browsers, by WebSockets, with --one-thread",
-    )
-    .value_parser(value_parser!(u16));
+/// Adds those that say where browsers connect, with a help for the first, and who is let in.
+pub(crate) fn with_web<'a>(
+    alloc: Global,
+    command: Command<'a>,
+    help: &'a str,
+) -> Result<Command<'a>, AllocError> {
+    let web = option(alloc, "web", help).value_parser(value_parser!(u16));
     let host = option(
         alloc,
         "host",
@@ -276,13 +285,17 @@ fn serve_command<'a>(alloc: Global) -> Result<Command<'a>, AllocError> {
         .about("shows a screen to viewers over TCP")
         .after_help(SERVE_HELP);
     let command = with_viewers(alloc, with_screen(alloc, command)?)?;
-    with_web(alloc, command)
+    with_web(
+        alloc,
+        command,
+        "a port for browsers, by WebSockets, with --one-thread",
+    )
 }
 
 /// How many viewers threads serve, and one thread, at most.
 const MOST_BY_THREADS: u32 = 64;
 
-const MOST_BY_ONE: u32 = 1024;
+pub(crate) const MOST_BY_ONE: u32 = 1024;
 
 /// Returns how many viewers the options of `serve` ask for.
 fn viewers_of(matches: &ArgMatches<'_>) -> u32 {
@@ -321,8 +334,11 @@ fn names_of(alloc: Global, matches: &ArgMatches<'_>, name: &str) -> Result<Liste
     Listed::from_slice(alloc, matches.get_str(name).unwrap_or("").as_bytes())
 }
 
-/// Returns the port at which the options of `serve` let browsers in, or `None` if they name none.
-fn web_of(alloc: Global, matches: &ArgMatches<'_>) -> Result<Option<WebPort>, AllocError> {
+/// Returns the port at which options let browsers in, or `None` if they name none.
+pub(crate) fn web_of(
+    alloc: Global,
+    matches: &ArgMatches<'_>,
+) -> Result<Option<WebPort>, AllocError> {
     let Some(port) = matches.get_one::<u16>("web") else {
         return Ok(None);
     };
@@ -578,6 +594,8 @@ pub fn line_of(alloc: Global, words: &[String]) -> Result<Chosen, Error>
         own_line(alloc, words)
     } else if is_replay(words) {
         replay_line(alloc, words)
+    } else if is_mirror(words) {
+        mirror_line(alloc, words)
     } else {
         other_line(alloc, words)
     }

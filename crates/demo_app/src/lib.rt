@@ -1,5 +1,5 @@
 //! What the program `vncdemo` does: `play`, which `play_script` has, `serve`, which shows a screen to viewers over TCP, `self`, which
-//! runs a server and its viewers in one process, and `replay`, which the crate of this name has.
+//! runs a server and its viewers in one process, and `replay` and `mirror`, which the crates of these names have.
 //!
 //! The viewer of `self`, `Shown`, is handed on for tests of other programs.
 //!
@@ -8,6 +8,7 @@
 
 mod command_line;
 mod endings;
+mod mirror_line;
 mod one_thread;
 mod self_test;
 mod self_test_one_thread;
@@ -16,6 +17,7 @@ mod watching;
 
 pub use command_line::{Chosen, WebPort, line_of};
 pub use event_loop::{LetIn, RecordWriter};
+pub use mirror::{BrowserListener, Listeners, MirrorOptions, mirror_on};
 pub use one_thread::{Browsers, OneThread, serve_in_one_thread};
 pub use pixel_translate::{BitsPerPixel, Component};
 pub use play_script::{SCRIPT_LIMIT, Steps, play_counted, play_over};

@@ -1,12 +1,12 @@
-//! The program `vncdemo`: its command line, `play` on standard input and output, `serve` on a port of 127.0.0.1, `self`, and `replay` of
-//! a file.
+//! The program `vncdemo`: its command line, `play` on standard input and output, `serve` on a port of 127.0.0.1, `self`, `replay` of
+//! a file, and `mirror` of another server.
 #![tactic(auto)]
 
 use clap::error::ErrorKind;
 use demo_app::{
-    Asked, Browsers, ByThreads, Chosen, OneThread, RecordWriter, ServeOptions, Stop, WebPort,
-    is_refused, line_of, play_over, replay_over, self_in_one_thread, self_on, serve_by_threads,
-    serve_in_one_thread,
+    Asked, BrowserListener, Browsers, ByThreads, Chosen, Listeners, MirrorOptions, OneThread,
+    RecordWriter, ServeOptions, Stop, WebPort, is_refused, line_of, mirror_on, play_over,
+    replay_over, self_in_one_thread, self_on, serve_by_threads, serve_in_one_thread,
 };
 use std::alloc::Global;
 use std::fs::{File, OpenOptions};
@@ -33,23 +33,23 @@ fn out_of_memory<R: Runtime>(rt: &R) -> ExitCode {
     }
 }
 
-/// A port of 127.0.0.1 that can't be had.
+/// An address that can't be had.
 #[derive(Drop)]
 struct NoPort {
-    port: u16,
+    address: SocketAddr,
     error: io::Error,
 }
 
-/// Says why a port can't be had.
+/// Says why an address can't be had.
 fn no_port<R: Runtime>(rt: &R, why: &NoPort) -> ExitCode {
-    let port = why.port;
+    let address = why.address;
     let why = match why.error.kind() {
         io::ErrorKind::AddrInUse => "is in use",
         io::ErrorKind::PermissionDenied => "is not for this user",
         _ => "can't be had",
     };
     // The status is the same where this can't be printed.
-    let _ = eprintln!(rt; "127.0.0.1:{port} {why}");
+    let _ = eprintln!(rt; "{address} {why}");
     let _ = println!(rt; "network fault");
     ExitCode::from(5)
 }
@@ -226,9 +226,14 @@ fn serve_with_threads<
 /// Listens on a port of 127.0.0.1, for one thread.
 fn listen<R: Net>(rt: &R, port: u16) -> Result<mio::net::TcpListener, NoPort> {
     let address = SocketAddr::from((Ipv4Addr::LOCALHOST, port));
+    listen_on(rt, address)
+}
+
+/// Listens on an address, for one thread.
+fn listen_on<R: Net>(rt: &R, address: SocketAddr) -> Result<mio::net::TcpListener, NoPort> {
     match mio::net::TcpListener::bind(rt, address) {
         Ok(listener) => Ok(listener),
-        Err(error) => Err(NoPort { port, error }),
+        Err(error) => Err(NoPort { address, error }),
     }
 }
 
@@ -317,7 +322,10 @@ fn serve<
         Way::Threads => {
             match serve_with_threads(rt, alloc, port, options, besides, &mut writer) {
                 Ok(status) => Ok(status),
-                Err(error) => Err(NoPort { port, error }),
+                Err(error) => Err(NoPort {
+                    address: SocketAddr::from((Ipv4Addr::LOCALHOST, port)),
+                    error,
+                }),
             }
         }
         Way::OneThread => serve_with_one(rt, alloc, port, options, besides, &mut writer),
@@ -343,6 +351,63 @@ fn own<R: Runtime + Threads + Wait + Net<Listener = TcpListener, Stream = TcpStr
         Way::Threads => self_on(rt, alloc, viewers, &mut writer),
         Way::OneThread => self_in_one_thread(rt, alloc, viewers, &mut writer),
     };
+    // After a write fault nothing more is written: what the buffer holds is let go.
+    let _ = writer.into_parts();
+    ExitCode::from(status)
+}
+
+/// Listens for a mirror's viewers on an address, and for browsers on a port of it, where one is named.
+fn listeners_on<R: Net>(
+    rt: &R,
+    listen: SocketAddr,
+    web: Option<WebPort>,
+) -> Result<Listeners, NoPort> {
+    let viewers = listen_on(rt, listen)?;
+    let browsers = match web {
+        Some(WebPort { port, let_in }) => Some(BrowserListener {
+            listener: listen_on(rt, SocketAddr::new(listen.ip(), port))?,
+            let_in,
+        }),
+        None => None,
+    };
+    Ok(Listeners { viewers, browsers })
+}
+
+/// Says what is shown, and where.
+fn say_shown<R: Runtime>(rt: &R, source: SocketAddr, listeners: &Listeners) {
+    let Ok(address) = listeners.viewers.local_addr() else {
+        return;
+    };
+    let browsers = match &listeners.browsers {
+        Some(browsers) => browsers.listener.local_addr().ok(),
+        None => None,
+    };
+    // Where this can't be printed, viewers are served all the same.
+    let _ = match browsers {
+        Some(browsers) => {
+            eprintln!(rt; "{source} is shown on {address}, and to browsers on {browsers}")
+        }
+        None => eprintln!(rt; "{source} is shown on {address}"),
+    };
+}
+
+/// Shows another server's picture on an address, by one thread.
+fn mirror<R: Runtime + Net>(
+    rt: &R,
+    alloc: Global,
+    listen: SocketAddr,
+    web: Option<WebPort>,
+    options: &MirrorOptions,
+) -> ExitCode {
+    let listeners = match listeners_on(rt, listen, web) {
+        Ok(listeners) => listeners,
+        Err(why) => return no_port(rt, &why),
+    };
+    say_shown(rt, options.address, &listeners);
+    let Ok(mut writer) = BufWriter::new(alloc, io::writer(rt)) else {
+        return out_of_memory(rt);
+    };
+    let status = mirror_on(rt, alloc, listeners, options, &mut writer);
     // After a write fault nothing more is written: what the buffer holds is let go.
     let _ = writer.into_parts();
     ExitCode::from(status)
@@ -412,6 +477,13 @@ fn main(rt: HostRuntime) -> ExitCode {
         Ok(Chosen::Own { viewers }) => own(&rt, alloc, Way::Threads, viewers),
         Ok(Chosen::OwnInOneThread { viewers }) => own(&rt, alloc, Way::OneThread, viewers),
         Ok(Chosen::Replay { file, asked }) => replay(&rt, &file, asked),
+        Ok(
+            Chosen::Mirror {
+                listen,
+                web,
+                options,
+            },
+        ) => mirror(&rt, alloc, listen, web, &options),
         Err(error) if error.kind() == ErrorKind::OutOfMemory => out_of_memory(&rt),
         Err(error) => {
             // Where standard error fails too, there is nobody left to tell.

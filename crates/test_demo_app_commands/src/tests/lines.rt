@@ -1,7 +1,8 @@
 // What command lines choose, and what is printed where they choose nothing.
 
-use demo_app::{Chosen, ServeOptions, WebPort, line_of};
+use demo_app::{Chosen, MirrorOptions, ServeOptions, WebPort, line_of};
 use std::alloc::{AllocError, Global};
+use std::net::SocketAddr;
 use std::test::Fail;
 
 /// What a command line comes to, as a text.
@@ -96,7 +97,33 @@ fn text_of(alloc: Global, chosen: &Chosen) -> Result<String, AllocError> {
         Chosen::Own { viewers } => format!(in alloc; "self {viewers}"),
         Chosen::OwnInOneThread { viewers } => format!(in alloc; "self in one thread {viewers}"),
         Chosen::Replay { file, asked } => format!(in alloc; "replay {file}, {asked:?}"),
+        Chosen::Mirror {
+            listen,
+            web,
+            options,
+        } => {
+            let text = text_of_mirror(alloc, *listen, options)?;
+            with_web(alloc, text, web)
+        }
     }
+}
+
+// What is chosen for `mirror`, as a text.
+fn text_of_mirror(
+    alloc: Global,
+    listen: SocketAddr,
+    options: &MirrorOptions,
+) -> Result<String, AllocError> {
+    let MirrorOptions {
+        address,
+        viewers,
+        view_only,
+        raw,
+        once,
+    } = options;
+    format!(in alloc;
+        "mirror {address} on {listen}, {viewers}, view only: {view_only}, raw: {raw}, once: {once}"
+    )
 }
 
 // The same of a line's words, or what is printed where nothing is chosen.
@@ -162,11 +189,12 @@ const OTHER_COMMANDS: &[&str] = &[
     "\n  serve  shows ",
     "\n  self   serves ",
     "\n  replay reads ",
+    "\n  mirror shows ",
 ];
 
 const VIEWERS_OF_SELF: &str = " how many viewers there are, 1 to 8 [default: 2]\n";
 
-static LINES: [(&str, Outcome); 53] = [
+static LINES: [(&str, Outcome); 62] = [
     ("vncdemo play", Is("play")),
     ("vncdemo", REFUSED),
     ("vncdemo --help", Has("refused: ", OTHER_COMMANDS)),
@@ -213,6 +241,32 @@ static LINES: [(&str, Outcome); 53] = [
     ("vncdemo self --viewers 0", REFUSED),
     ("vncdemo self --viewers 9", REFUSED),
     ("vncdemo self --viewers two", REFUSED),
+    // the options of `mirror`
+    (
+        "vncdemo mirror 127.0.0.1:5901",
+        Is(
+            "mirror 127.0.0.1:5901 on 127.0.0.1:5900, 1024, view only: false, raw: false, once: false",
+        ),
+    ),
+    (
+        "vncdemo mirror [::1]:1 --listen :: --port 0 --viewers 1 --view-only --raw --once",
+        Is("mirror [::1]:1 on [::]:0, 1, view only: true, raw: true, once: true"),
+    ),
+    (
+        "vncdemo mirror 127.0.0.1:5901 --web 5800 --host here --origin http://there",
+        Is(
+            "mirror 127.0.0.1:5901 on 127.0.0.1:5900, 1024, view only: false, raw: false, once: false, browsers on 5800 by 'here' of 'http://there'",
+        ),
+    ),
+    ("vncdemo mirror", REFUSED),
+    (
+        "vncdemo mirror localhost:5901",
+        Has("refused: ", &["an address is as 127.0.0.1:5901"]),
+    ),
+    ("vncdemo mirror 127.0.0.1", REFUSED),
+    ("vncdemo mirror 127.0.0.1:5901 --listen here", REFUSED),
+    ("vncdemo mirror 127.0.0.1:5901 --viewers 0", REFUSED),
+    ("vncdemo mirror 127.0.0.1:5901 --viewers 1025", REFUSED),
     // records
     (
         "vncdemo serve --one-thread --record kept.txt",

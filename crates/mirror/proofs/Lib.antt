@@ -1,0 +1,4 @@
+pub mod Inboxes
+pub mod Sending
+pub mod Hearing
+pub mod Troubles
