@@ -253,14 +253,11 @@ impl<S: WriteBoth> Write for WebStream<S> {
     /// Writes bytes as the payload of a binary frame of their length, after what `flush` would write. Where the stream below takes fewer,
     /// the bytes of the next write go on with that frame.
     ///
-    /// Fails as `BrokenPipe` behind a close, as `WouldBlock` where the client did wrong, which the next read tells, and as `Interrupted` where
-    /// the stream below took only bytes that are no payload.
+    /// Fails as `BrokenPipe` once the frames are over, and as `Interrupted` where the stream below took only bytes that are no payload.
     #[tactic(auto, using(crate::proofs::WritingLemmas::behind_answers))]
     fn write(&mut self, bytes: &[u8]) -> io::Result<usize> {
-        match self.inward.over() {
-            None => {}
-            Some(Over::Closed) => return Err(io::Error::from(ErrorKind::BrokenPipe)),
-            Some(Over::Fault(_)) => return Err(io::Error::from(ErrorKind::WouldBlock)),
+        if self.inward.over().is_some() {
+            return Err(io::Error::from(ErrorKind::BrokenPipe));
         }
         if bytes.is_empty() {
             return Ok(0);
