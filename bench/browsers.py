@@ -235,16 +235,14 @@ def of_one(program, *words):
     return process, int(process.stderr.readline().rpartition("127.0.0.1:")[2].split()[0].strip(","))
 
 
-def ending(program, data, apart):
-    """What is printed of a browser that says these bytes behind the version, or at once with it."""
+def ending(program, data):
+    """What is printed of a browser that says these bytes once its version was answered."""
     process, web = of_one(program)
     with process:
         browser = Browser(web)
-        version = frame(b"RFB 003.008\n")
-        if apart:
-            browser.stream.sendall(version)
-            browser.take(14)
-        browser.answer(data if apart else version + data)
+        browser.send(b"RFB 003.008\n")
+        browser.take(14)
+        browser.answer(data)
         browser.stream.close()
         return process.communicate(timeout=PATIENCE)[0]
 
@@ -321,9 +319,8 @@ def check(program, streams, seed):
     hurried = Browser(server.web, frame(b"RFB 003.008\n"))
     if hurried.take(14) != b"RFB 003.008\n\x01\x01":
         wrong.append("a frame right behind a request")
-    for apart in (False, True):
-        if ending(program, frame(b"x", opcode=1), apart) != "viewer 1 Frames\n":
-            wrong.append("the end of one whose frames are wrong")
+    if ending(program, frame(b"x", opcode=1)) != "viewer 1 Frames\n":
+        wrong.append("the end of one whose frames are wrong")
     why = b"too many viewers"
     # noVNC reads one message of an opening in each frame
     if told(program) != ([b"RFB 003.003\n", struct.pack(">II", 0, len(why)) + why], [(8, b"\x03\xe8")]):
