@@ -256,7 +256,7 @@ impl<S: WriteBoth> Write for WebStream<S> {
     /// Fails as `BrokenPipe` once the frames are over, and as `Interrupted` where the stream below took only bytes that are no payload.
     #[tactic(auto, using(crate::proofs::WritingLemmas::behind_answers))]
     fn write(&mut self, bytes: &[u8]) -> io::Result<usize> {
-        if self.inward.over().is_some() {
+        if let Some(_over) = self.inward.over() {
             return Err(io::Error::from(ErrorKind::BrokenPipe));
         }
         if bytes.is_empty() {
