@@ -325,13 +325,8 @@ static int closes(void)
     return is_over();
 }
 
-int main(int argc, char **argv)
+static int all(void)
 {
-    s = (vnc_server *)malloc(vnc_server_size());
-    HOLDS(s != 0);
-    vnc_server_init(s);
-    (void)argv;
-    if (argc > 1) patience = 3;
     DO(begins());
     DO(same_bytes());
     DO(two_at_once());
@@ -344,7 +339,11 @@ int main(int argc, char **argv)
     DO(lost_coming());
     DO(system_fails());
     DO(closes());
-    vnc_server_free(s);
-    puts("server_adopt ok");
     return 0;
+}
+
+int main(int argc, char **argv)
+{
+    (void)argv;
+    return runs("server_adopt", all, argc > 1);
 }

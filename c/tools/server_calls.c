@@ -350,13 +350,8 @@ static int changes_nothing(void)
     return is_over();
 }
 
-int main(int argc, char **argv)
+static int all(void)
 {
-    s = (vnc_server *)malloc(vnc_server_size());
-    HOLDS(s != 0);
-    vnc_server_init(s);
-    (void)argv;
-    if (argc > 1) patience = 3;
     memset(letters, 'a', sizeof letters);
     DO(each_call());
     DO(cannot_listen());
@@ -367,7 +362,11 @@ int main(int argc, char **argv)
     DO(bounds());
     DO(listens_anew());
     DO(changes_nothing());
-    vnc_server_free(s);
-    puts("server_calls ok");
     return 0;
+}
+
+int main(int argc, char **argv)
+{
+    (void)argv;
+    return runs("server_calls", all, argc > 1);
 }

@@ -203,14 +203,9 @@ static int is_full(void)
     return is_over();
 }
 
-int main(int argc, char **argv)
+static int all(void)
 {
     size_t k;
-    s = (vnc_server *)malloc(vnc_server_size());
-    HOLDS(s != 0);
-    vnc_server_init(s);
-    (void)argv;
-    if (argc > 1) patience = 3;
     DO(leave());
     DO(come_from());
     DO(lists());
@@ -219,7 +214,11 @@ int main(int argc, char **argv)
     DO(lets_go());
     DO(lets_keys_go());
     DO(is_full());
-    vnc_server_free(s);
-    puts("server_events ok");
     return 0;
+}
+
+int main(int argc, char **argv)
+{
+    (void)argv;
+    return runs("server_events", all, argc > 1);
 }

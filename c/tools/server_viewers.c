@@ -264,13 +264,8 @@ static int all_settings(void)
     return 0;
 }
 
-int main(int argc, char **argv)
+static int all(void)
 {
-    s = (vnc_server *)malloc(vnc_server_size());
-    HOLDS(s != 0);
-    vnc_server_init(s);
-    (void)argv;
-    if (argc > 1) patience = 3;
     DO(greets());
     DO(paints());
     DO(draws());
@@ -278,7 +273,11 @@ int main(int argc, char **argv)
     DO(texts());
     DO(all_settings());
     DO(shortens());
-    vnc_server_free(s);
-    puts("server_viewers ok");
     return 0;
+}
+
+int main(int argc, char **argv)
+{
+    (void)argv;
+    return runs("server_viewers", all, argc > 1);
 }

@@ -248,13 +248,8 @@ static int codes(void)
     return is_over();
 }
 
-int main(int argc, char **argv)
+static int all(void)
 {
-    s = (vnc_server *)malloc(vnc_server_size());
-    HOLDS(s != 0);
-    vnc_server_init(s);
-    (void)argv;
-    if (argc > 1) patience = 3;
     DO(codes());
     DO(same_bytes());
     DO(is_guarded());
@@ -264,7 +259,11 @@ int main(int argc, char **argv)
     DO(listens_again());
     DO(on_many_ports());
     DO(listens_later());
-    vnc_server_free(s);
-    puts("server_web ok");
     return 0;
+}
+
+int main(int argc, char **argv)
+{
+    (void)argv;
+    return runs("server_web", all, argc > 1);
 }

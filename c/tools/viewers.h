@@ -207,4 +207,17 @@ static inline int is_event(uint64_t viewer, uint32_t kind, uint32_t reason, int3
 static inline int comes(uint64_t viewer) { return is_event(viewer, VNC_EVENT_CONNECTED, 0, 0); }
 static inline int goes(uint64_t viewer, uint32_t reason, int32_t fault) { return is_event(viewer, VNC_EVENT_DISCONNECTED, reason, fault); }
 
+/* Runs a program's checks with a server, which is freed behind them, with less patience where that is asked for, and says that all went well. */
+static inline int runs(const char *name, int (*checks)(void), int hurried)
+{
+    s = (vnc_server *)malloc(vnc_server_size());
+    HOLDS(s != 0);
+    vnc_server_init(s);
+    if (hurried) patience = 3;
+    DO(checks());
+    vnc_server_free(s);
+    printf("%s ok\n", name);
+    return 0;
+}
+
 #endif
