@@ -6,6 +6,7 @@ and how a browser ended is printed; silent ones hold nobody up, and so many stre
 behind them. With --cost it prints instead what processor time the server takes for a whole update of 1920 by 1080 in Raw, and for a dot to
 eight viewers, over TCP and over WebSockets in turns, and with websockify in front where that is installed. The status is 1 where something is not as it should be."""
 import argparse
+import glob
 import os
 import random
 import shutil
@@ -24,8 +25,7 @@ RAW = struct.pack(">BxHi", 2, 1, 0)
 
 def spent(pid):
     """What a process spent of the processor's time, in seconds."""
-    fields = open(f"/proc/{pid}/stat").read().rpartition(")")[2].split()
-    return (int(fields[11]) + int(fields[12])) / os.sysconf("SC_CLK_TCK")
+    return sum(int(open(it).read().split()[0]) for it in glob.glob(f"/proc/{pid}/task/*/schedstat")) / 1e9
 
 
 class Server:
@@ -247,6 +247,18 @@ def ending(program, data):
         return process.communicate(timeout=PATIENCE)[0]
 
 
+def ending_at_once(program, last):
+    """The same of one that says a right message and a frame in one piece, with what it was sent behind the former."""
+    process, web = of_one(program)
+    with process:
+        browser = Browser(web)
+        browser.send(b"RFB 003.008\n")
+        browser.take(14)
+        close = browser.answer(frame(b"\x01") + last)
+        browser.stream.close()
+        return bytes(browser.held), close, process.communicate(timeout=PATIENCE)[0]
+
+
 def told(program):
     """The frames that a browser is sent that is one too many, and its close."""
     process, web = of_one(program, "--forever", "--end-with-input")
@@ -321,6 +333,10 @@ def check(program, streams, seed):
         wrong.append("a frame right behind a request")
     if ending(program, frame(b"x", opcode=1)) != "viewer 1 Frames\n":
         wrong.append("the end of one whose frames are wrong")
+    if ending_at_once(program, frame(b"x", opcode=1)) != (bytes(4), (8, b"\x03\xeb"), "viewer 1 Frames\n"):
+        wrong.append("the end of one with a right message and a wrong frame in one piece")
+    if ending_at_once(program, frame(b"", opcode=8)) != (bytes(4), (8, b""), "viewer 1 EndOfInput\n"):
+        wrong.append("the end of one with a message and a close in one piece")
     why = b"too many viewers"
     # noVNC reads one message of an opening in each frame
     if told(program) != ([b"RFB 003.003\n", struct.pack(">II", 0, len(why)) + why], [(8, b"\x03\xe8")]):

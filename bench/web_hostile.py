@@ -5,18 +5,21 @@ One viewer over TCP asks for one whole update of 640 by 480 after another, alone
 median of the rounds. The status is 1 where less than 0.95 is left to it, and of what comes without end 0.80."""
 import argparse
 import multiprocessing
+import os
 import random
 import selectors
+import signal
 import socket
 import struct
 import sys
 import time
 
-from browsers import KEY, RAW, Browser, Server, Viewer, frame, median, request
+from browsers import KEY, RAW, Browser, Server, Viewer, changed, ends, frame, median, request
 
 WIDTH, HEIGHT = 640, 480
 WHOLE = struct.pack(">BBHHHH", 3, 0, 0, 0, WIDTH, HEIGHT)
 FLOOD, OTHER = 0.80, 0.95
+MOMENT = 0.2
 
 
 def opened(web, count):
@@ -95,6 +98,14 @@ def broken(web):
     comers(web, lambda: request(web) + frame(b"x", opcode=3))
 
 
+def mutated(web):
+    """Requests and frames with bytes changed, one connection after the other, cut anywhere."""
+    chance = random.Random(1)
+    said = [request(web), *map(frame, (b"RFB 003.008\n", b"\x01", b"\x01", RAW, WHOLE))]
+    while True:
+        ends(web, changed(b"".join(said), chance), chance)
+
+
 def heads(web):
     """Forty requests whose heads have no end, a byte each 10 milliseconds."""
     streams = [socket.create_connection(("127.0.0.1", web)) for _ in range(40)]
@@ -115,38 +126,58 @@ ATTACKS = [
     ("eight move the pointer without end, a byte in each frame", bytes_in_frames, FLOOD),
     ("eight send empty fragments without end", empty_fragments, FLOOD),
     ("eight ask for all without end, and never read", wholes, FLOOD),
-    ("forty of nonsense come and go", nonsense, OTHER),
-    ("forty of a foreign page come and go", refused, OTHER),
-    ("forty whose frames are wrong come and go", broken, OTHER),
+    ("forty at once of nonsense come and go without end", nonsense, FLOOD),
+    ("forty at once of a foreign page come and go without end", refused, FLOOD),
+    ("forty at once whose frames are wrong come and go without end", broken, FLOOD),
+    ("one with bytes changed comes behind the other", mutated, OTHER),
     ("forty requests have no end", heads, OTHER),
 ]
 
 
-def rate(viewer, seconds):
+def rate(viewer, seconds, room=bytearray(16 + 4 * WIDTH * HEIGHT)):
+    """How many whole updates a viewer takes in a second, each asked for once the last one came."""
     count, began = 0, time.monotonic()
     while time.monotonic() - began < seconds:
         viewer.stream.sendall(WHOLE)
-        viewer.take(16 + 4 * WIDTH * HEIGHT)
+        if viewer.stream.recv_into(room, len(room), socket.MSG_WAITALL) < len(room):
+            raise EOFError
         count += 1
     return count / (time.monotonic() - began)
 
 
 def share(program, attack, seconds):
+    """What is left of its rate while an attacker is there, who stands still every other moment, for the rate beside it."""
     server = Server(program, WIDTH, HEIGHT)
     viewer = Viewer(server.port)
     viewer.open()
+    viewer.stream.settimeout(None)
     viewer.stream.sendall(RAW)
-    alone = rate(viewer, seconds)
+    rate(viewer, MOMENT)
     attacker = multiprocessing.Process(target=attack, args=(server.web,), daemon=True)
     attacker.start()
+    apart(server.process.pid, 0, os.getpid(), 1, attacker.pid, 2)
     time.sleep(0.5)
-    attacked = rate(viewer, seconds)
+    attacked, alone = [], []
+    for _ in range(round(seconds / MOMENT)):
+        attacked.append(rate(viewer, MOMENT))
+        os.kill(attacker.pid, signal.SIGSTOP)
+        time.sleep(MOMENT / 5)
+        alone.append(rate(viewer, MOMENT))
+        os.kill(attacker.pid, signal.SIGCONT)
+        time.sleep(MOMENT / 5)
     fell = not attacker.is_alive()
     attacker.kill()
     attacker.join()
     viewer.stream.close()
     server.end()
-    return attacked / alone, fell
+    return sum(attacked) / sum(alone), sum(alone) / len(alone), fell
+
+
+def apart(*pids):
+    """Each on a processor of its own, where there are some."""
+    if os.cpu_count() > 3:
+        for pid, processor in zip(pids[::2], pids[1::2]):
+            os.sched_setaffinity(pid, {processor})
 
 
 def main():
@@ -154,13 +185,15 @@ def main():
     words.add_argument("program")
     words.add_argument("--rounds", type=int, default=3)
     words.add_argument("--seconds", type=float, default=2)
+    words.add_argument("--only", default="", help="a part of what browsers do")
     chosen, failed = words.parse_args(), False
-    print("| what browsers do | goal | left |\n|---|---|---|")
-    for name, attack, goal in ATTACKS:
+    print("| what browsers do | goal | left | alone a second |\n|---|---|---|---|")
+    for name, attack, goal in (it for it in ATTACKS if chosen.only in it[0]):
         found = [share(chosen.program, attack, chosen.seconds) for _ in range(chosen.rounds)]
-        left = median([part for part, _ in found])
-        failed |= left < goal or any(fell for _, fell in found)
-        print(f"| {name} | {goal:.2f} | {left:.2f}{', and an attacker fell' if any(fell for _, fell in found) else ''} |", flush=True)
+        left, alone = (median([it[k] for it in found]) for k in (0, 1))
+        fell = any(it[2] for it in found)
+        failed |= left < goal or fell
+        print(f"| {name} | {goal:.2f} | {left:.2f} | {alone:.0f} |{' an attacker fell' if fell else ''}", flush=True)
     return failed
 
 

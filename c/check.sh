@@ -161,6 +161,7 @@ run() { # NAME PROGRAM HOW..: each example, as it is to be run
     sketch) looked_at "640 by 480, [1-4] colours, sketch" "$@" "$program" PORT 5 ;;
     own_pixels) looked_at "320 by 200, 20[0-9][0-9] colours, own pixels" "$@" "$program" PORT 5 ;;
     inetd) looked_at "320 by 200, [12] colours, inetd" python3 "$here/tools/inetd.py" PORT 3 "$@" "$program" ;;
+    admit) says_ok admit python3 "$here/tools/admit.py" "$@" "$program" ;;
     own_loop) looked_at "320 by 200, 1 colours, own loop" with_input 5 "$@" "$program" PORT ;;
     *) "$@" "$program" ;;
     esac

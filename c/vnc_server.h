@@ -16,8 +16,8 @@
  *            closed server holds no other memory and no descriptor: the
  *            program may free its memory, or listen there again. Memory that
  *            a call is given is used during that call alone, and the library
- *            hands out no pointers but constant texts. vnc_server_adopt says
- *            whose a descriptor is.
+ *            hands out no pointers but constant texts. vnc_server_adopt and
+ *            vnc_server_listen_at say whose a descriptor is.
  * Threads    One call at a time for each server, from any thread: where several
  *            threads use one, the program has a lock around each call, and a
  *            turn that waits holds it; vnc_waker_wake ends the wait. Two
@@ -155,20 +155,16 @@ int32_t vnc_server_serve_n(vnc_server *server,
 /* Serves a black picture as vnc_server_listen does, but listens nowhere: its
  * viewers are those that vnc_server_adopt takes in, and its port is 0.
  * Returns 0, or VNC_ERROR_VERSION, VNC_ERROR_BAD_SIZE, VNC_ERROR_BAD_NAME,
- * VNC_ERROR_NETWORK, VNC_ERROR_NO_MEMORY, or VNC_ERROR_CANNOT_RECORD where
- * vnc_server_record named a file: what listens nowhere is not recorded, and
- * errno is ENOTSUP. A closed server may be told to serve. */
+ * VNC_ERROR_NETWORK, VNC_ERROR_CANNOT_RECORD or VNC_ERROR_NO_MEMORY. A closed
+ * server may be told to serve. */
 static inline int32_t vnc_server_serve(vnc_server *server,
                                        uint32_t width, uint32_t height,
                                        const char *name, uint32_t viewers)
 {
-    int32_t code;
     if (vnc_server_abi() != VNC_SERVER_ABI) return VNC_ERROR_VERSION;
-    code = vnc_server_serve_n(server, width, height, (const uint8_t *)name,
+    return vnc_server_serve_n(server, width, height, (const uint8_t *)name,
                               strlen(name),
                               viewers ? viewers : VNC_SERVER_VIEWERS);
-    if (code == VNC_ERROR_CANNOT_RECORD) errno = ENOTSUP;
-    return code;
 }
 
 /* Does what vnc_server_listen_also does, for an address of so many bytes. */
@@ -190,6 +186,19 @@ static inline int32_t vnc_server_listen_also(vnc_server *server,
     return vnc_server_listen_also_n(server, (const uint8_t *)address,
                                     strlen(address), port);
 }
+
+/* Listens further at a socket that the program has: one that systemd handed
+ * over, one of UNIX at a path that the program bound. Who comes there is a
+ * viewer as the others are. The picture, the viewers and the ports stay.
+ *   fd  a stream socket, bound to an address of IP or UNIX; it may listen
+ *       already, and is made non-blocking
+ * Returns 0, or VNC_ERROR_BAD_SOCKET where it is no socket or can't listen,
+ * VNC_ERROR_NETWORK, VNC_ERROR_CANNOT_LISTEN, VNC_ERROR_NO_MEMORY, or
+ * VNC_ERROR_TOO_MANY_PORTS where the server listens at eight already.
+ * Behind VNC_ERROR_BAD_SOCKET and VNC_ERROR_CLOSED the descriptor stays the
+ * program's. Otherwise it is the server's, also behind the other codes, which
+ * have closed it; the file at the path of a UNIX socket stays. */
+int32_t vnc_server_listen_at(vnc_server *server, int32_t fd);
 
 /* Does what vnc_server_listen_web does, for texts of so many bytes. */
 int32_t vnc_server_listen_web_n(vnc_server *server,
@@ -228,14 +237,14 @@ static inline int32_t vnc_server_listen_web(vnc_server *server,
 int32_t vnc_server_record_n(vnc_server *server,
                             const uint8_t *path, size_t path_count);
 
-/* Names the file in which the picture that vnc_server_listen serves next is
- * recorded, as it happens: what is drawn, and what viewers send. `vncdemo
- * replay` has from it what each viewer was sent, byte for byte. The file has
- * pictures, keys and copied texts in it.
- *   path  of at most 4,095 bytes; "" for no record. vnc_server_listen makes the
- *         file, for its owner alone to read, and answers
- *         VNC_ERROR_CANNOT_RECORD where it exists or can't be made
- * It holds for one vnc_server_listen that is done, and until vnc_server_close.
+/* Names the file in which the picture that is served next is recorded, as it
+ * happens: what is drawn, and what viewers send. `vncdemo replay` has from it
+ * what each viewer was sent, byte for byte. The file has pictures, keys and
+ * copied texts in it.
+ *   path  of at most 4,095 bytes; "" for no record. vnc_server_listen and
+ *         vnc_server_serve make the file, for its owner alone to read, and
+ *         answer VNC_ERROR_CANNOT_RECORD where it exists or can't be made
+ * It holds for one of these that is done, and until vnc_server_close.
  * Each turn writes before it waits, and vnc_server_close writes the rest. Where
  * a write fails the record ends, and the server goes on: viewers are sent the
  * same with a record and without one. Returns 0, or VNC_ERROR_NO_MEMORY. A
@@ -447,6 +456,34 @@ static inline int32_t vnc_server_viewer_address(const vnc_server *server,
         server, viewer, (uint8_t *)buffer, size ? size - 1 : 0);
     if (size) buffer[count > 0 ? count : 0] = 0;
     return count < 0 ? count : 0;
+}
+
+/* What moved of a viewer. */
+typedef struct vnc_traffic {
+    uint64_t received; /* bytes read from it: of a browser the payloads */
+    uint64_t sent;     /* bytes written to it, likewise */
+    uint64_t updates;  /* updates made for it */
+    uint64_t silent;   /* milliseconds from its last bytes or, before any came,
+                          from its coming, to the last turn */
+} vnc_traffic;
+VNC_LAYOUT(vnc_traffic, 32, 8);
+
+/* Does what vnc_server_traffic does: copies the first of the numbers of which
+ * the library's vnc_traffic consists into `numbers`, and returns how many. */
+int32_t vnc_server_traffic_n(const vnc_server *server, uint64_t viewer,
+                             uint64_t *numbers, size_t count);
+
+/* Tells what moved of a viewer. A program that lets silent viewers go looks
+ * here. What an older library doesn't know is 0.
+ * Returns 0, or VNC_ERROR_NO_VIEWER, and `*traffic` stays. */
+static inline int32_t vnc_server_traffic(const vnc_server *server,
+                                         uint64_t viewer, vnc_traffic *traffic)
+{
+    uint64_t numbers[sizeof *traffic / sizeof(uint64_t)] = {0};
+    int32_t code = vnc_server_traffic_n(server, viewer, numbers,
+                                        sizeof numbers / sizeof *numbers);
+    if (code >= 0) memcpy(traffic, numbers, sizeof *traffic);
+    return code < 0 ? code : 0;
 }
 
 /* Does what vnc_server_settings does: copies the first of the 32-bit words of

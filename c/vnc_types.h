@@ -38,7 +38,7 @@ enum vnc_code {
     VNC_ERROR_TOO_FEW_BYTES = -19,  /* the rows take more than there are */
     VNC_ERROR_CANNOT_RECORD = -20,  /* the file can't be made: see errno */
     VNC_ERROR_VERSION = -21,        /* header and library differ */
-    VNC_ERROR_BAD_SOCKET = -22,     /* no socket that is connected: see errno */
+    VNC_ERROR_BAD_SOCKET = -22,     /* no such socket: see errno */
     VNC_ERROR_FULL = -23,           /* as many viewers as may be connected */
     VNC_ERROR_CANNOT_ADOPT = -24,   /* the system refused it: see errno */
     VNC_ERROR_TOO_MANY_PORTS = -25, /* it listens on eight already */

@@ -1,5 +1,5 @@
-/* server_adopt.c: a vnc_server that listens nowhere, and connections that the program has: an end of a socketpair, a UNIX socket that was
- * accepted, one of TCP, and what is none: "server_adopt ok" where each answer is the one that stands here. */
+/* server_adopt.c: a vnc_server that listens nowhere, and connections and listeners that the program has: an end of a socketpair, a UNIX socket
+ * that was accepted, one of TCP, sockets that are bound at a path and at a port, and what is none: "server_adopt ok" where each answer is the one that stands here. */
 #define _DEFAULT_SOURCE
 #include "vnc_server.h"
 #include "viewers.h"
@@ -114,19 +114,38 @@ static int two_at_once(void)
     return is_over();
 }
 
-/* One that was accepted at a path is adopted beside one that the server accepted itself. */
-static int at_path(void)
+/* The address of a path of this program's own, where nothing is yet. */
+static struct sockaddr_un own_path(void)
 {
     struct sockaddr_un at;
-    int listener, ours;
     memset(&at, 0, sizeof at);
     at.sun_family = AF_UNIX;
     snprintf(at.sun_path, sizeof at.sun_path, "/tmp/server_adopt.%ld", (long)getpid());
     unlink(at.sun_path);
-    listener = socket(AF_UNIX, SOCK_STREAM, 0);
-    HOLDS(listener >= 0 && bind(listener, (struct sockaddr *)&at, sizeof at) == 0 && listen(listener, 1) == 0);
-    second = socket(AF_UNIX, SOCK_STREAM, 0);
-    HOLDS(second >= 0 && connect(second, (struct sockaddr *)&at, sizeof at) == 0);
+    return at;
+}
+
+/* A socket that is bound at a path, and one that connects to it. */
+static int bound_at(const struct sockaddr_un *at)
+{
+    int fd = socket(AF_UNIX, SOCK_STREAM, 0);
+    return fd >= 0 && bind(fd, (const struct sockaddr *)at, sizeof *at) == 0 ? fd : -1;
+}
+
+static int connects_by(int *fd, const struct sockaddr_un *at)
+{
+    leaves(fd);
+    *fd = socket(AF_UNIX, SOCK_STREAM, 0);
+    return *fd >= 0 && connect(*fd, (const struct sockaddr *)at, sizeof *at) == 0;
+}
+
+/* One that was accepted at a path is adopted beside one that the server accepted itself. */
+static int at_path(void)
+{
+    const struct sockaddr_un at = own_path();
+    int ours, listener = bound_at(&at);
+    HOLDS(listener >= 0 && listen(listener, 1) == 0);
+    HOLDS(connects_by(&second, &at));
     ours = accept(listener, 0, 0);
     HOLDS(ours >= 0 && unlink(at.sun_path) == 0);
     IS(listens(2, 1), 0);
@@ -253,7 +272,7 @@ static int lost_coming(void)
     return is_over();
 }
 
-/* A server that listens nowhere is refused as one that listens is, and goes on as it was; it isn't recorded. */
+/* A server that listens nowhere is refused as one that listens is, and goes on as it was. */
 static int begins(void)
 {
     static const uint8_t letters[256] = {0};
@@ -262,9 +281,9 @@ static int begins(void)
     DO(adopts(&first, 1));
     IS(vnc_server_serve(s, 0, 1, "demo", 8), VNC_ERROR_BAD_SIZE);
     IS(vnc_server_serve_n(s, 2, 1, letters, 256, 8), VNC_ERROR_BAD_NAME);
-    IS(vnc_server_record(s, "/tmp/server_adopt.record"), 0);
+    IS(vnc_server_record(s, "/"), 0);
     IS(serves(8), VNC_ERROR_CANNOT_RECORD);
-    IS(errno, ENOTSUP);
+    IS(errno, EEXIST);
     IS(vnc_server_record_state(s), VNC_RECORD_NONE);
     IS(vnc_server_viewer_count(s), 1);
     IS(vnc_server_record(s, ""), 0);
@@ -325,6 +344,95 @@ static int closes(void)
     return is_over();
 }
 
+/* Two come by a path at which the program bound a socket, are served as others are, and have no IP address. */
+static int listens_at_path(void)
+{
+    const struct sockaddr_un at = own_path();
+    char address[VNC_ADDRESS_SIZE];
+    int ours = bound_at(&at);
+    IS(serves(8), 0);
+    HOLDS(ours >= 0);
+    IS(vnc_server_listen_at(s, ours), 0);
+    IS(vnc_server_port(s), 0);
+    HOLDS((fcntl(ours, F_GETFL) & O_NONBLOCK) != 0);
+    HOLDS(connects_by(&first, &at));
+    HOLDS(comes(1));
+    HOLDS(connects_by(&second, &at));
+    HOLDS(comes(2));
+    IS(vnc_server_viewer_address(s, 2, address, sizeof address), VNC_ERROR_NETWORK);
+    HOLDS(says(second, B(OPENING)) && says(first, B(OPENING)) && skips(first, GREETED) && skips(second, GREETED));
+    HOLDS(sees_all(second) && sees_all(first));
+    leaves(&first);
+    HOLDS(goes(1, VNC_REASON_LEFT, 0));
+    HOLDS(sees_all(second));
+    IS(vnc_server_close(s), 0);
+    HOLDS(!is_there(ours) && access(at.sun_path, F_OK) == 0 && unlink(at.sun_path) == 0);
+    return is_over();
+}
+
+/* One comes by a port at which the program listens, beside one by the server's own. */
+static int listens_at_port(void)
+{
+    struct sockaddr_in at = at_port("127.0.0.1", 0);
+    socklen_t size = sizeof at;
+    char address[VNC_ADDRESS_SIZE];
+    int ours = socket(AF_INET, SOCK_STREAM, 0);
+    HOLDS(ours >= 0 && bind(ours, (struct sockaddr *)&at, sizeof at) == 0 && listen(ours, 1) == 0);
+    HOLDS(getsockname(ours, (struct sockaddr *)&at, &size) == 0);
+    IS(listens(2, 1), 0);
+    IS(vnc_server_listen_at(s, ours), 0);
+    HOLDS(connects_at(&first, "127.0.0.1", ntohs(at.sin_port), 0));
+    HOLDS(comes(1));
+    HOLDS(opens(&second));
+    HOLDS(comes(2));
+    IS(vnc_server_viewer_address(s, 1, address, sizeof address), 0);
+    IS(strcmp(address, "127.0.0.1"), 0);
+    HOLDS(says(first, B(OPENING)) && skips(first, GREETED) && sees_all(first) && sees_all(second));
+    return is_over();
+}
+
+/* What can't listen stays the program's, and errno says why. */
+static int no_listener(int fd, int why)
+{
+    int was_there = is_there(fd);
+    errno = 0;
+    IS(vnc_server_listen_at(s, fd), VNC_ERROR_BAD_SOCKET);
+    IS(errno, why);
+    IS(is_there(fd), was_there);
+    return 0;
+}
+
+/* A ninth listener is closed, and so is one that the system won't watch; that of a closed server stays the program's. */
+static int no_listeners(void)
+{
+    const struct sockaddr_un at = own_path();
+    int fds[2], ours = bound_at(&at), k;
+    HOLDS(ours >= 0);
+    IS(vnc_server_listen_at(s, ours), VNC_ERROR_CLOSED);
+    HOLDS(is_there(ours));
+    IS(serves(8), 0);
+    HOLDS(pipe(fds) == 0);
+    DO(no_listener(fds[0], ENOTSOCK));
+    HOLDS(close(fds[0]) == 0 && close(fds[1]) == 0);
+    DO(no_listener(fds[0], EBADF));
+    DO(no_listener(-1, EBADF));
+    HOLDS(pair(&first, &k));
+    DO(no_listener(k, EINVAL));
+    HOLDS(close(k) == 0);
+    watch_fails = 1;
+    IS(vnc_server_listen_at(s, ours), VNC_ERROR_CANNOT_LISTEN);
+    IS(errno, ENOSPC);
+    watch_fails = 0;
+    HOLDS(!is_there(ours) && unlink(at.sun_path) == 0);
+    for (k = 0; k < 9; k++) {
+        ours = bound_at(&at);
+        HOLDS(ours >= 0 && unlink(at.sun_path) == 0);
+        IS(vnc_server_listen_at(s, ours), k < 8 ? 0 : VNC_ERROR_TOO_MANY_PORTS);
+        HOLDS(is_there(ours) == (k < 8));
+    }
+    return is_over();
+}
+
 static int all(void)
 {
     DO(begins());
@@ -339,6 +447,9 @@ static int all(void)
     DO(lost_coming());
     DO(system_fails());
     DO(closes());
+    DO(listens_at_path());
+    DO(listens_at_port());
+    DO(no_listeners());
     return 0;
 }
 

@@ -199,9 +199,31 @@ static int made(void)
     return 0;
 }
 
+/* What listens nowhere is recorded, too. */
+static int unbound(void)
+{
+    char room[4096];
+    int fds[2];
+    IS(records("unbound"), 0);
+    IS(vnc_server_serve(s, 2, 1, "demo", 8), 0);
+    IS(vnc_server_record_state(s), VNC_RECORD_WRITTEN);
+    IS(socketpair(AF_UNIX, SOCK_STREAM, 0, fds), 0);
+    first = fds[0];
+    IS(vnc_server_adopt(s, fds[1]), 1);
+    HOLDS(says(first, B(OPENING)) && skips(first, GREETED) && sees_all(first));
+    IS(vnc_server_close(s), 0);
+    HOLDS(holds("unbound", room, sizeof room) > 0);
+    HOLDS(strncmp(room, SCREEN "connect 1\n", sizeof SCREEN + 9) == 0 && strstr(room, "\ncut 1\n") != 0);
+    IS(records("unbound"), 0);
+    IS(vnc_server_serve(s, 2, 1, "demo", 8), VNC_ERROR_CANNOT_RECORD);
+    IS(errno, EEXIST);
+    IS(vnc_server_record(s, ""), 0);
+    return is_over();
+}
+
 static void forget(void)
 {
-    static const char *const names[] = {"drawn", "visited", "link", "unmade", "broken", "made"};
+    static const char *const names[] = {"drawn", "visited", "link", "unmade", "broken", "made", "unbound"};
     size_t k;
     EACH(k, names) unlink(at(names[k]));
     rmdir(at("folder"));
@@ -216,7 +238,7 @@ int main(int argc, char **argv)
     s = (vnc_server *)malloc(vnc_server_size());
     if (!s || !mkdtemp(folder)) return 1;
     vnc_server_init(s);
-    failed = unrecorded() || drawn() || visited() || refusals() || breaks() || made();
+    failed = unrecorded() || drawn() || visited() || refusals() || breaks() || made() || unbound();
     leaves(&first);
     vnc_server_free(s);
     forget();

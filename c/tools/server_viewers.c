@@ -250,6 +250,35 @@ static int full_requests(void)
     return is_over();
 }
 
+/* What moved of a viewer: the bytes, an update, and for how long it said nothing. Of another one the program's struct stays. */
+static int moves(void)
+{
+    vnc_traffic traffic = {1, 2, 3, 4};
+    uint64_t numbers[5] = {9, 9, 9, 9, 9};
+    double end;
+    IS(vnc_server_traffic(s, 1, &traffic), VNC_ERROR_CLOSED);
+    IS(listens(2, 1), 0);
+    HOLDS(opens(&first));
+    HOLDS(opens(&second));
+    IS(vnc_server_traffic(s, 3, &traffic), VNC_ERROR_NO_VIEWER);
+    HOLDS(traffic.received == 1 && traffic.sent == 2 && traffic.updates == 3 && traffic.silent == 4);
+    HOLDS(sees_all(first));
+    IS(vnc_server_traffic(s, 1, &traffic), 0);
+    HOLDS(traffic.received == sizeof OPENING - 1 + sizeof ALL - 1 && traffic.sent == GREETED + PICTURE && traffic.updates == 1);
+    IS(vnc_server_traffic(s, 2, &traffic), 0);
+    HOLDS(traffic.received == sizeof OPENING - 1 && traffic.sent == GREETED && traffic.updates == 0);
+    for (end = seconds() + 0.06; seconds() < end;) HOLDS(turns());
+    HOLDS(sees_all(first));
+    IS(vnc_server_traffic_n(s, 2, numbers, 5), 4);
+    HOLDS(numbers[0] == sizeof OPENING - 1 && numbers[3] >= 50 && numbers[4] == 9);
+    IS(vnc_server_traffic(s, 1, &traffic), 0);
+    HOLDS(traffic.updates == 2 && traffic.silent < numbers[3]);
+    numbers[1] = 9;
+    IS(vnc_server_traffic_n(s, 2, numbers, 1), 1);
+    HOLDS(numbers[1] == 9);
+    return is_over();
+}
+
 static int all_settings(void)
 {
     size_t k;
@@ -261,6 +290,7 @@ static int all_settings(void)
     is_over();
     DO(settings_of_nobody());
     DO(full_requests());
+    DO(moves());
     return 0;
 }
 

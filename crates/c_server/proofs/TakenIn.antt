@@ -1,5 +1,5 @@
 -- Connections that the program has.
-use Rattle.std.proofs.Common.{◌≡◌, ◌≤◌, ◌<◌, ℕ, ℤ, pos, Bool, List, [], ◌++◌, Option, Some, Result, refl, sym, inl, inr, subst, append-nil, arith}
+use Rattle.std.proofs.Common.{◌≡◌, ◌<◌, ℕ, ℤ, pos, Bool, List, [], ◌++◌, Option, Some, Result, refl, sym, inl, inr, subst, append-nil, arith}
 use Rattle.std.specs.Prelude.{IfOk, ◌≤ℤ◌, ◌⊎◌, is_some, count_by}
 use Rattle.screen.specs.declared.Input.{Input}
 use Rattle.screen.specs.declared.Config.{Config}

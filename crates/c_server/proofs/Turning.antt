@@ -120,9 +120,9 @@ never-serves BadAddress = λ same. absurd (cc)
 never-serves CannotListen = λ same. absurd (cc)
 never-serves CannotRecord = λ same. absurd (cc)
 
-serves-ok : {X : Type 0} (path : List ℕ) (result : Result X ListenError) (x : X) (o : Option ScreenError) → result ≡ Ok x → is_named path ≡ false → IsRefusedBy path o result → Answers (option_map code_of o) (IsServeCode path) done
-serves-ok path result x None is unnamed h = inl (inl (refl, unnamed))
-serves-ok path result x (Some e) is unnamed h = absurd (cc)
+serves-ok : {X : Type 0} (path : List ℕ) (result : Result X ListenError) (x : X) (o : Option ScreenError) → result ≡ Ok x → IsRefusedBy path o result → Answers (option_map code_of o) (IsServeCode path) done
+serves-ok path result x None is h = inl (inl refl)
+serves-ok path result x (Some e) is h = absurd (cc)
 
 unbound-of-system : (path : List ℕ) (e : ListenError) → IsOfSystem path e → e ≢ BadAddress → IsServeCode path (unbound_code e) ⊎ (unbound_code e ≡ out_of_memory)
 unbound-of-system path (Refused e) h later = inr (ap code_of h)
@@ -137,19 +137,16 @@ serves-err path result e (Some r) is h later = let same : e ≡ Refused r = cc i
 -- it serves
 pub serves-unbound : {X : Type 0} (result : Result X ListenError) (x : X) (c : Config) (desk new : Standing) (s : Serving) (viewers granted : ℕ) (path : List ℕ) → path ≡ desk.record_path
     → new ≡ record { served = Some s; port = 0; viewers = granted; inputs = []; visits = []; text = []; lost = 0; full_requests = 0; text_room = texts_limit; record_path = []; recorded = is_named desk.record_path }
-    → Serves c (desk_sockets false c) [] s → result ≡ Ok x → IsRefusedBy path (config_refusal c) result → granted ≡ viewers → is_named path ≡ false → ServesUnbound c viewers desk new done
-serves-unbound result x c desk new s viewers granted path same so serves is h as_many unnamed = rw so (record {
-  answer = subst (λ (p : List ℕ). Answers (option_map code_of (config_refusal c)) (IsServeCode p) done) same (serves-ok path result x (config_refusal c) is unnamed h);
-  serves = λ is_done. subst (λ (b : Bool). Serves c (desk_sockets b c) [] s) (sym unrecorded) serves;
-  others = λ is_done. subst (λ (b : Bool). standing granted (is_named desk.record_path) ≡ standing viewers b) unrecorded (ap (λ n. standing n (is_named desk.record_path)) as_many);
+    → Serves c (desk_sockets (is_named path) c) [] s → result ≡ Ok x → IsRefusedBy path (config_refusal c) result → granted ≡ viewers → ServesUnbound c viewers desk new done
+serves-unbound result x c desk new s viewers granted path same so serves is h as_many = rw so (record {
+  answer = subst (λ (p : List ℕ). Answers (option_map code_of (config_refusal c)) (IsServeCode p) done) same (serves-ok path result x (config_refusal c) is h);
+  serves = λ is_done. subst (λ (p : List ℕ). Serves c (desk_sockets (is_named p) c) [] s) same serves;
+  others = λ is_done. ap standing as_many;
   refused = λ not_done. absurd (not_done refl);
 })
   where
-    standing : ℕ → Bool → Standing
-    standing n b = record { served = Some s; port = 0; viewers = n; inputs = []; visits = []; text = []; lost = 0; full_requests = 0; text_room = texts_limit; record_path = []; recorded = b }
-
-    unrecorded : is_named desk.record_path ≡ false
-    unrecorded = ap is_named (sym same) ∙ unnamed
+    standing : ℕ → Standing
+    standing n = record { served = Some s; port = 0; viewers = n; inputs = []; visits = []; text = []; lost = 0; full_requests = 0; text_room = texts_limit; record_path = []; recorded = is_named desk.record_path }
 
 -- it does not
 pub serves-not : {X : Type 0} (result : Result X ListenError) (e : ListenError) (c : Config) (viewers : ℕ) (desk : Standing) (code : ℤ) (path : List ℕ) → path ≡ desk.record_path → code ≡ unbound_code e → result ≡ Err e → IsRefusedBy path (config_refusal c) result → IfErr result (λ e. e ≢ BadAddress) → ServesUnbound c viewers desk desk code

@@ -20,6 +20,8 @@ use Rattle.screen.specs.Paints.{paints_of}
 use Rattle.event_loop.specs.declared.event_loop.LoopError.{LoopError}
 use Rattle.event_loop.specs.declared.viewers.Admission.{Admission}
 use Rattle.event_loop.specs.Admitting.{IsAdmittedOr}
+use Rattle.event_loop.specs.Traffic.{IsTrafficOf}
+use Rattle.event_loop.specs.declared.traffic.Traffic.{Traffic}
 use Rattle.c_screen.specs.Codes.{Answers, code_of, done, no_viewer, out_of_memory, shut}
 use Rattle.c_screen.specs.Calls.{settings_code, settings_room, shown_in}
 use Rattle.c_screen.specs.Desk.{IsListOf}
@@ -65,20 +67,29 @@ pub record ListensFurther (digits : List ℕ) (port : ℕ) (old new : Standing) 
   pub answer : MatchOption old.served (code ≡ shut) (λ s. IsFurtherCode digits port code)
   pub same : new ≡ old
 
--- what a call of `serve` answers where the screen is none that is refused, by the path of the file in which it was to be recorded: what listens nowhere is not recorded
+-- what a call of `serve` answers where the screen is none that is refused, by the path of the file in which it is to be recorded
 abbrev pub IsServeCode : List ℕ → ℤ → Type 0
-IsServeCode path code = ((code ≡ done) × (is_named path ≡ false)) ⊎ ((code ≡ network_failed) ⊎ ((code ≡ cannot_record) × (is_named path ≡ true)))
+IsServeCode path code = (code ≡ done) ⊎ ((code ≡ network_failed) ⊎ ((code ≡ cannot_record) × (is_named path ≡ true)))
 
--- the desk listens nowhere, and serves a screen with nothing on it to no viewer yet, and to so many at once at most; or it is as it was
+-- the desk listens nowhere, and serves a screen with nothing on it to no viewer yet, and to so many at once at most, which is recorded where a file was named; or it is as it was
 pub record ServesUnbound (c : Config) (viewers : ℕ) (old new : Standing) (code : ℤ) : Type 0 where
   pub answer : Answers (option_map code_of (config_refusal c)) (IsServeCode old.record_path) code
   pub serves : code ≡ done → StandsFor c [] new
-  pub others : code ≡ done → new ≡ record nothing_there { served = new.served; viewers = viewers }
+  pub others : code ≡ done → new ≡ record nothing_there { served = new.served; viewers = viewers; recorded = is_named old.record_path }
   pub refused : code ≢ done → new ≡ old
 
 -- why a descriptor of the program's is no connection: it is no connected socket, and stays the program's; or the system refuses not to wait at it
 abbrev pub IsSocketRefusal : ℤ → ℤ → Type 0
 IsSocketRefusal fd code = (code ≡ bad_socket) ⊎ ((pos 0 ≤ℤ fd) × (code ≡ network_failed))
+
+-- what a server's further listening at a socket of the program's answers where that is one: 0, or why it doesn't listen there
+abbrev pub IsListeningCode : ℤ → Type 0
+IsListeningCode code = (code ≡ done) ⊎ ((code ≡ cannot_listen) ⊎ ((code ≡ too_many_ports) ⊎ (code ≡ out_of_memory)))
+
+-- a server listens further at a socket that the program has by a descriptor, or it is refused; what it serves, and to whom, stays
+pub record ListensAt (fd : ℤ) (old new : Standing) (code : ℤ) : Type 0 where
+  pub answer : MatchOption old.served (code ≡ shut) (λ s. IsSocketRefusal fd code ⊎ ((pos 0 ≤ℤ fd) × IsListeningCode code))
+  pub same : new ≡ old
 
 -- The loop was asked to take a connection in, and its answer is the code. It is the viewer with the next number, whose coming is put behind those that wait, or counted as lost; or it was refused, and nothing has changed; or the answer is a failure.
 pub record IsAdopted (s : Serving) (old new : Standing) (code : ℤ) : Type 0 where
@@ -191,6 +202,17 @@ IsAddressIn room_old room_new code = ((address : IpAddr) × AreDigitsIn (ip_text
 -- a viewer's address is told, if one has the number
 pub record TellsAddress (v : ℕ) (old new : Standing) (room_old room_new : List ℕ) (code : ℤ) : Type 0 where
   pub answer : MatchOption old.served (code ≡ shut) (λ s. ((code ≡ no_viewer) × ((key : ℕ) → number_at s.slots key ≢ Some v)) ⊎ (((key : ℕ) × (number_at s.slots key ≡ Some v)) × IsAddressIn room_old room_new code))
+  pub same : new ≡ old
+  pub refused : code <ℤ pos 0 → room_new ≡ room_old
+
+-- what moved of a viewer that is connected is put there in numbers, as many as fit: the bytes read, the bytes written, the updates cut, and for how many milliseconds it had said nothing
+abbrev pub IsTrafficIn : Serving → ℕ → List ℕ → List ℕ → ℤ → Type 0
+IsTrafficIn s v room_old room_new code = (traffic : Traffic) × IsTrafficOf s v traffic × (silent : ℕ) ×
+    (code ≡ pos (count_shown (traffic.received ∷ traffic.sent ∷ traffic.updates ∷ silent ∷ []) room_old)) × (room_new ≡ shown_in (traffic.received ∷ traffic.sent ∷ traffic.updates ∷ silent ∷ []) room_old)
+
+-- a call changes nothing but a room, which shows what moved of a viewer, if one has the number
+pub record ShowsTraffic (v : ℕ) (old new : Standing) (room_old room_new : List ℕ) (code : ℤ) : Type 0 where
+  pub answer : MatchOption old.served (code ≡ shut) (λ s. ((code ≡ no_viewer) × ((key : ℕ) → number_at s.slots key ≢ Some v)) ⊎ IsTrafficIn s v room_old room_new code)
   pub same : new ≡ old
   pub refused : code <ℤ pos 0 → room_new ≡ room_old
 

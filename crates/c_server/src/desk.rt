@@ -1,6 +1,6 @@
 //! The desk: the calls of a server, and what waits to be fetched.
 
-ghost use Rattle.std.specs.Prelude.{◌≡◌, ◌≤◌, ◌<◌, ◌<ℤ◌, ◌+◌, ◌-◌, ◌∷◌, ◌++◌, [], ◌^◌, take, pos, map, min, length, None, Some, IfOk, IfErr, OnOk, is_some, count_by};
+ghost use Rattle.std.specs.Prelude.{◌≡◌, ℕ, ◌≤◌, ◌<◌, ◌<ℤ◌, ◌+◌, ◌-◌, ◌∷◌, ◌++◌, [], ◌^◌, take, pos, map, min, length, None, Some, IfOk, IfErr, OnOk, is_some, count_by};
 ghost use Rattle.screen.specs.declared.Event.{Event};
 ghost use Rattle.screen.specs.Alone.{config_refusal};
 ghost use Rattle.screen.specs.Calls.{event_of};
@@ -11,12 +11,12 @@ ghost use Rattle.c_screen.specs.Calls.{colour_at, of_viewer};
 ghost use Rattle.c_screen.specs.Desk.{rect_of, config_of, IsListOf};
 ghost use Rattle.std.specs.VecDeque.{deque_capacity};
 ghost use Rattle.c_server.specs.Desk.{fitting, texts_limit, is_named, nothing_there, rects_per_update, region_due};
-ghost use Rattle.c_server.specs.Calls.{Listens, ListensFurther, ServesUnbound, Adopts, NamesRecord, record_state, TakesTurn, Draws, DrawsRegion, FetchesInputs, FetchesVisits, ShowsNumbers, ShowsText, ShowsSettings, Tells, TellsAddress, TellsSome, TellsWait, AreDigitsIn, LetsGo, TakesPixels};
+ghost use Rattle.c_server.specs.Calls.{Listens, ListensAt, ListensFurther, ServesUnbound, Adopts, NamesRecord, record_state, TakesTurn, Draws, DrawsRegion, FetchesInputs, FetchesVisits, ShowsNumbers, ShowsText, ShowsSettings, ShowsTraffic, Tells, TellsAddress, TellsSome, TellsWait, AreDigitsIn, LetsGo, TakesPixels};
 ghost use Rattle.std.specs.Net.Text.{ip_text};
 ghost use Rattle.c_screen.specs.Pixels.{format_of, source_from};
 ghost use Rattle.source_pixels.specs.declared.formats.SourceFormat.TheVariants as format;
 
-use crate::adopting::{Silent, stream_of, turn_away};
+use crate::adopting::{Listener, Silent, listener_of, stream_of, turn_away};
 use crate::codes::{
     CLOCK_FAILED, FULL, NETWORK_FAILED, adopt_code, closed_code, further_code, turn_code,
 };
@@ -34,7 +34,7 @@ use c_screen::{
     Corners, OFF_SCREEN, OUT_OF_RANGE, PixelLayout, SHUT, Told, are_far, code_of, copy_to, done_or,
     places_code, region_of, show_settings, source_of, truth_or,
 };
-use event_loop::{EventLoop, Listed, Rect, Region, ScreenError, drawn_is_served};
+use event_loop::{EventLoop, Listed, Rect, Region, ScreenError, Traffic, drawn_is_served};
 use screen::Drawing;
 use std::alloc::{AllocError, Global};
 use std::collections::VecDeque;
@@ -42,6 +42,7 @@ use std::marker::Model;
 use std::mem;
 use std::net::IpAddr;
 use std::os::fd::AsRawFd;
+use std::time::Duration;
 
 /// A server in one thread, or none where the desk is shut; and what came of its viewers and wasn't fetched. Each call answers `SHUT`
 /// where it is shut, but for `listen` and `close`. A number below 0 is the code of a refusal, and nothing has changed then, but for
@@ -167,6 +168,19 @@ fn show_address(alloc: Global, address: IpAddr, room: &mut [u8]) -> i32
     }
 }
 
+/// Returns what moved of a viewer, in numbers, the last of which is for how many milliseconds it had said nothing by a time.
+fn numbers_of(traffic: &Traffic, time: Duration) -> [u64; 4]
+    ensures { (silent : ℕ) × (result ≡ traffic.now.received ∷ traffic.now.sent ∷ traffic.now.updates ∷ silent ∷ []) }
+{
+    let silent = time.saturating_sub(traffic.heard_at).as_millis();
+    [
+        traffic.received,
+        traffic.sent,
+        traffic.updates,
+        u64::try_from(silent).unwrap_or(u64::MAX),
+    ]
+}
+
 impl ServerDesk {
     /// Returns a desk that is shut. It takes no memory.
     pub fn new(alloc: Global) -> ServerDesk
@@ -268,6 +282,25 @@ impl ServerDesk {
         }
     }
 
+    /// Listens further at a socket that the program has, by its descriptor: a stream socket of IP or of UNIX that is bound to an address, and
+    /// may listen already, as one of systemd's does. Who comes there is a viewer like the others.
+    ///
+    /// The descriptor is the desk's then, and it is closed at once where the answer is below 0, but for two codes behind which it stays the
+    /// program's: `SHUT`, and `BAD_SOCKET` where it is no socket, or can't listen. Else `NETWORK_FAILED` where it can't be made not to wait,
+    /// `CANNOT_LISTEN` where the system refuses to have it watched, `OutOfMemory`'s code, or `TOO_MANY_PORTS`.
+    pub fn listen_at(&mut self, fd: i32) -> i32
+        ensures { ListensAt fd self.old self.new result }
+    {
+        let Some(events) = &mut self.events else {
+            return SHUT;
+        };
+        match listener_of(fd) {
+            Ok(Listener::Tcp(listener)) => further_code(events.listen(listener), 0),
+            Ok(Listener::Unix(listener)) => further_code(events.listen_unix(listener), 0),
+            Err(code) => code,
+        }
+    }
+
     /// Listens on a port for browsers, which are viewers over WebSockets (RFC 6455), in place of one on which it listened for them before. A
     /// browser's request is let in where its Host is `127.0.0.1`, `localhost` or `[::1]`, or one of `hosts`, and where it has no Origin, or
     /// that of the same host, or one of `origins`: lists with commas in between. Returns the port, or what `listen_also` does.
@@ -291,7 +324,7 @@ impl ServerDesk {
 
     /// Serves a black screen to as many viewers at once as `viewers` says, and listens nowhere: they come by `adopt`. What was open is
     /// closed. `name` is the desktop's (RFC 6143, 7.3.2), of at most 255 bytes. `NETWORK_FAILED` where the system has no more handles, and
-    /// `CANNOT_RECORD` where `record_next` named a file, since what listens nowhere isn't recorded.
+    /// `CANNOT_RECORD` where `record_next` named a file that is there already, or can't be made.
     pub fn serve(&mut self, width: u32, height: u32, name: &[u8], viewers: u32) -> i32
         ensures { ServesUnbound (config_of width height name.now rects_per_update) viewers self.old self.new result }
     {
@@ -434,6 +467,21 @@ impl ServerDesk {
             return NETWORK_FAILED;
         };
         show_address(self.alloc, address.ip(), room)
+    }
+
+    /// Puts what moved of a viewer at the room's start, in four numbers, as many as fit, and returns how many; the rest of the room stays: the
+    /// bytes that were read from it, those that were written to it, the updates that were cut for it, and for how many milliseconds it had said
+    /// nothing by the last turn. Returns `NoViewer`'s code where none has the number.
+    pub fn traffic(&mut self, viewer: u64, room: &mut [u64]) -> i32
+        ensures { ShowsTraffic viewer self.old self.new room.old room.new result }
+    {
+        let Some(events) = &self.events else {
+            return SHUT;
+        };
+        match events.viewer_traffic(viewer) {
+            Some(traffic) => copy_to(room, &numbers_of(&traffic, events.last_turn())) as i32,
+            None => code_of(ScreenError::NoViewer),
+        }
     }
 
     /// Returns the system's handle that is ready to be read where a turn has something to do that came over the network.

@@ -140,10 +140,11 @@ fn refused(error: LoopError) -> ListenError
     }
 }
 
-/// Returns a loop that serves a screen, whose configuration is within the limits, and records it in a file that is made.
+/// Returns a loop that serves a screen, whose configuration is within the limits, at a listener, if there is one, and records it in a file
+/// that is made.
 fn serve_recorded(
     alloc: Global,
-    listener: TcpListener,
+    listener: Option<TcpListener>,
     config: Config,
     limits: Limits,
     record_path: &[u8],
@@ -157,16 +158,21 @@ fn serve_recorded(
         return Err(ListenError::CannotRecord);
     };
     let writer = RecordWriter::PrivateFile(file);
-    match EventLoop::recorded(&Network, alloc, listener, config, limits, writer) {
+    let made = match listener {
+        Some(listener) => EventLoop::recorded(&Network, alloc, listener, config, limits, writer),
+        None => EventLoop::unbound_recorded(&Network, alloc, config, limits, writer),
+    };
+    match made {
         Ok(events) => Ok(Granting { events, limits }),
         Err(e) => Err(refused(e)),
     }
 }
 
-/// Returns a loop that serves a screen, whose configuration is within the limits, and records it where a path names a file.
+/// Returns a loop that serves a screen, whose configuration is within the limits, at a listener, if there is one, and records it where a path
+/// names a file.
 fn serve(
     alloc: Global,
-    listener: TcpListener,
+    listener: Option<TcpListener>,
     config: Config,
     viewers: u32,
     record_path: &[u8],
@@ -180,7 +186,11 @@ fn serve(
     if !record_path.is_empty() {
         return serve_recorded(alloc, listener, config, limits, record_path);
     }
-    match EventLoop::new(&Network, alloc, listener, config, limits) {
+    let made = match listener {
+        Some(listener) => EventLoop::new(&Network, alloc, listener, config, limits),
+        None => EventLoop::unbound(&Network, alloc, config, limits),
+    };
+    match made {
         Ok(events) => Ok(Granting { events, limits }),
         Err(e) => Err(refused(e)),
     }
@@ -224,7 +234,7 @@ fn open(
 {
     let (listener, port) = bind(at)?;
     let config = config_of(alloc, width, height, name)?;
-    let made = serve(alloc, listener, config, viewers, record_path)?;
+    let made = serve(alloc, Some(listener), config, viewers, record_path)?;
     Ok(Listening {
         events: made.events,
         port,
@@ -255,29 +265,26 @@ pub(crate) fn listen_on(
     }
 }
 
-/// Returns a loop that listens nowhere and serves a black screen to no viewer yet, whose configuration is within the limits.
+/// Returns a loop that listens nowhere and serves a black screen to no viewer yet, whose configuration is within the limits. It is recorded
+/// where a path names a file.
 fn open_unbound(
     alloc: Global,
     width: u32,
     height: u32,
     name: &[u8],
     viewers: u32,
+    record_path: &[u8],
 ) -> Result<Granting, ListenError>
-    ensures serves { IfOk result (λ made. Serves (config_of width height name.now rects_per_update) (desk_sockets false (config_of width height name.now rects_per_update)) [] made.events) }
+    ensures serves { IfOk result (λ made. Serves (config_of width height name.now rects_per_update) (desk_sockets (is_named record_path.now) (config_of width height name.now rects_per_update)) [] made.events) }
     ensures viewers { IfOk result (λ made. made.limits.live_viewers ≡ viewers) }
-    ensures err { IfErr result (λ e. (path : List ℕ) → IsOfSystem path e) }
+    ensures err { IfErr result (IsOfSystem record_path.now) }
     ensures later { IfErr result (λ e. e ≢ ListenError.BadAddress) }
 {
     let config = config_of(alloc, width, height, name)?;
-    let limits = limits_of(viewers);
-    match EventLoop::unbound(&Network, alloc, config, limits) {
-        Ok(events) => Ok(Granting { events, limits }),
-        Err(e) => Err(refused(e)),
-    }
+    serve(alloc, None, config, viewers, record_path)
 }
 
-/// Returns a loop that listens nowhere and serves a black screen to no viewer yet. Refused as `CannotRecord` where a path names a file:
-/// such a loop isn't recorded.
+/// Returns a loop that listens nowhere and serves a black screen to no viewer yet. It is recorded where a path names a file.
 pub(crate) fn serve_unbound(
     alloc: Global,
     width: u32,
@@ -286,15 +293,13 @@ pub(crate) fn serve_unbound(
     viewers: u32,
     record_path: &[u8],
 ) -> Result<Granting, ListenError>
-    ensures serves { IfOk result (λ made. Serves (config_of width height name.now rects_per_update) (desk_sockets false (config_of width height name.now rects_per_update)) [] made.events) }
+    ensures serves { IfOk result (λ made. Serves (config_of width height name.now rects_per_update) (desk_sockets (is_named record_path.now) (config_of width height name.now rects_per_update)) [] made.events) }
     ensures viewers { IfOk result (λ made. made.limits.live_viewers ≡ viewers) }
-    ensures unnamed { OnOk result (is_named record_path.now ≡ false) }
     ensures refused { IsRefusedBy record_path.now (config_refusal (config_of width height name.now rects_per_update)) result }
     ensures later { IfErr result (λ e. e ≢ ListenError.BadAddress) }
 {
     match config_refusal(width, height, name, RECTS_PER_UPDATE) {
         Some(refusal) => Err(ListenError::Refused(refusal)),
-        None if record_path.is_empty() => open_unbound(alloc, width, height, name, viewers),
-        None => Err(ListenError::CannotRecord),
+        None => open_unbound(alloc, width, height, name, viewers, record_path),
     }
 }

@@ -19,7 +19,7 @@ pub record Known : Type 0 where
   pub hung_up : Bool
   -- whether its last read filled the buffer, or left more to be read at once
   pub was_full : Bool
-  -- how many bytes it said of late, and when that was reckoned, in milliseconds
+  -- how many bytes it said of late, and when that was reckoned, in milliseconds: when its last bytes came, or, before any came, it
   pub level : ℕ
   pub since : ℕ
 

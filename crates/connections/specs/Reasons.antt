@@ -41,6 +41,7 @@ level_by count now known = min (known.level - (now - known.since) * 64 + count) 
 abbrev pub known_by_read : Got → Bool → ℕ → Known → Known
 known_by_read (got.Piece count) full now known = record known { may_read = full || known.hung_up; was_full = full; level = level_by count now known; since = now }
 known_by_read got.Nothing full now known = record known { may_read = false; was_full = false }
+known_by_read got.Again full now known = record known { was_full = full }
 known_by_read came full now known = known
 
 -- what a write is that failed so: the transport takes nothing now, memory was refused, or the transport failed

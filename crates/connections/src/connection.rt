@@ -151,14 +151,15 @@ fn got_of(read: io::Result<usize>, close_code: u16) -> Got
 }
 
 impl<T: Transport> Connection<T> {
-    /// Returns a connection whose transport may give bytes and may take some, and whose viewer may ask. Keeps what moves where `is_kept`.
-    pub fn new(alloc: Global, transport: T, number: u64, is_kept: bool) -> Connection<T>
+    /// Returns a connection that came at the time `now`, in milliseconds, whose transport may give bytes and may take some, and whose viewer
+    /// may ask. Keeps what moves where `is_kept`.
+    pub fn new(alloc: Global, transport: T, number: u64, is_kept: bool, now: u64) -> Connection<T>
         ensures number { result.number ≡ number }
         ensures carried { result.carried ≡ record { unread = T.unread transport; written = T.written transport; sent = none_yet is_kept } }
         ensures waiting { waiting_bytes result.waiting ≡ [] }
         ensures held { result.held ≡ nothing }
         ensures ended { result.ended ≡ None }
-        ensures known { result.known ≡ record { may_read = true; may_write = true; may_cut = true; may_ask = true; hung_up = false; was_full = false; level = 0; since = 0 } }
+        ensures known { result.known ≡ record { may_read = true; may_write = true; may_cut = true; may_ask = true; hung_up = false; was_full = false; level = 0; since = now } }
         ensures counts { result.counts ≡ no_counts (none_yet is_kept) }
     {
         Connection {
@@ -175,7 +176,10 @@ impl<T: Transport> Connection<T> {
                 is_hung_up: false,
             },
             was_full: false,
-            flow: Flow { level: 0, since: 0 },
+            flow: Flow {
+                level: 0,
+                since: now,
+            },
             may_cut: true,
             may_ask: true,
             waits_for: None,
@@ -197,6 +201,20 @@ impl<T: Transport> Connection<T> {
         ensures written { T.written result.now ≡ self.now.carried.written }
     {
         &self.transport.transport
+    }
+
+    /// Returns how many updates were cut for its viewer.
+    pub fn cuts(&self) -> u64
+        ensures { result ≡ self.now.counts.cuts }
+    {
+        self.cuts
+    }
+
+    /// Returns when its last bytes came, or, before any came, it, in milliseconds.
+    pub fn heard_at(&self) -> u64
+        ensures { result ≡ self.now.known.since }
+    {
+        self.flow.since
     }
 
     /// Returns why it ended, if it did.
@@ -350,20 +368,22 @@ impl<T: Transport> Connection<T> {
                 self.was_full = false;
                 self.readiness.may_read = false;
             }
-            Got::Again => {}
+            Got::Again => self.was_full = is_full,
             Got::End => self.ended = Some(Ended::EndOfInput),
             Got::Failed => self.ended = Some(Ended::ReadFailed),
             Got::Wrong(code) => self.ended = Some(Ended::Frames(code)),
         }
     }
 
-    /// Returns whether a read of at most `size` bytes came to so many, or its transport has more at once.
+    /// Returns whether a read of at most `size` bytes came to so many, or its transport has more at once, also behind bytes that were its own
+    /// alone.
     fn is_full(&self, got: Got, size: usize) -> bool
         ensures full { (count : ℕ) → got ≡ Got.Piece count → size ≤ count → result ≡ true }
         ensures some { T.holds_back ≡ false → (count : ℕ) → got ≡ Got.Piece count → result ≡ nat_le size count }
     {
         match got {
             Got::Piece(count) => size <= count || self.transport.transport.has_more(),
+            Got::Again => self.transport.transport.has_more(),
             _ => false,
         }
     }

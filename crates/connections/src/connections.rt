@@ -289,7 +289,13 @@ impl<T: Transport> Connections<T> {
         self.asking.make_room(most)?;
         self.later.make_room(most)?;
         let version = self.canvas.connect(self.next)?;
-        let mut connection = Connection::new(self.alloc, transport, self.next, self.is_kept);
+        let mut connection = Connection::new(
+            self.alloc,
+            transport,
+            self.next,
+            self.is_kept,
+            self.time,
+        );
         connection.give(version.as_slice(), None);
         let key = self.connections.insert_reserved(connection);
         self.agenda.insert_reserved(key);
@@ -312,6 +318,23 @@ impl<T: Transport> Connections<T> {
     {
         let connection = self.connections.get(key)?;
         Some(connection.transport())
+    }
+
+    /// Returns how many updates were cut for the viewer that has the key.
+    pub fn cuts(&self, key: usize) -> Option<u64>
+        ensures { result ≡ option_map (λ e. e.counts.cuts) (at_key self.now.slots key) }
+    {
+        let connection = self.connections.get(key)?;
+        Some(connection.cuts())
+    }
+
+    /// Returns the time at which the last bytes came of the viewer that has the key, or, before any came, the viewer itself. It is the time
+    /// that `set_time` told last before.
+    pub fn heard_at(&self, key: usize) -> Option<u64>
+        ensures { result ≡ option_map (λ e. e.known.since) (at_key self.now.slots key) }
+    {
+        let connection = self.connections.get(key)?;
+        Some(connection.heard_at())
     }
 
     /// Returns the key of the viewer with a number; None where it isn't connected.

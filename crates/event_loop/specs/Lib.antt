@@ -8,3 +8,4 @@ pub mod Patience
 pub mod Doors
 pub mod Entrance
 pub mod Requests
+pub mod Traffic

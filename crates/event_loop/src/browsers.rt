@@ -5,7 +5,7 @@ ghost use Rattle.std.specs.Duration.{as_nanos};
 ghost use Rattle.std.specs.Time.{instant_nanos};
 ghost use Rattle.std.specs.VecDeque.{deque_len};
 
-use crate::door::Door;
+use crate::door::{Door, Listener};
 use crate::poller::Poller;
 use crate::request::{Request, Step};
 use crate::socket::{Peer, Socket};
@@ -45,7 +45,7 @@ impl Browsers {
     {
         Browsers {
             alloc,
-            door: Door::new(listener, 0),
+            door: Door::new(Listener::Tcp(listener), 0),
             admission,
             patience,
             waiting: VecDeque::new(alloc),

@@ -5,17 +5,53 @@ ghost use Rattle.std.specs.Duration.{as_nanos};
 ghost use Rattle.std.specs.Time.{instant_nanos};
 ghost use Rattle.event_loop.specs.Doors.{asked_again};
 
-use mio::net::{TcpListener, TcpStream};
+use mio::net::{TcpListener, TcpStream, UnixListener};
+use std::io;
 use std::io::ErrorKind;
+use std::os::fd::{AsRawFd, OwnedFd, RawFd};
 use std::time::{Duration, Instant};
 
 /// After how many milliseconds a listener is asked again where the system had no room for a connection.
 const RETRY: u64 = 100;
 
+/// What connections come by.
+#[derive(Drop)]
+pub(crate) enum Listener {
+    /// A port.
+    Tcp(TcpListener),
+    /// A socket of UNIX.
+    Unix(UnixListener),
+}
+
+impl Listener {
+    /// Accepts a connection that waits. One of UNIX is a stream by its descriptor, and has no address.
+    fn accept(&self) -> io::Result<TcpStream> {
+        match self {
+            Listener::Tcp(listener) => {
+                let (stream, _address) = listener.accept()?;
+                Ok(stream)
+            }
+            Listener::Unix(listener) => {
+                let (stream, _address) = listener.accept()?;
+                Ok(TcpStream::from(OwnedFd::from(stream)))
+            }
+        }
+    }
+}
+
+impl AsRawFd for Listener {
+    fn as_raw_fd(&self) -> RawFd {
+        match self {
+            Listener::Tcp(listener) => listener.as_raw_fd(),
+            Listener::Unix(listener) => listener.as_raw_fd(),
+        }
+    }
+}
+
 /// A listener, and whether a connection may wait there.
 #[derive(Drop)]
 pub(crate) struct Door {
-    listener: TcpListener,
+    listener: Listener,
     // which one it is of those for viewers
     number: usize,
     // a connection may wait
@@ -26,7 +62,7 @@ pub(crate) struct Door {
 
 impl Door {
     /// Returns a listener at which a connection may wait, with a number.
-    pub fn new(listener: TcpListener, number: usize) -> Door
+    pub fn new(listener: Listener, number: usize) -> Door
         ensures { result ≡ record { listener = listener; number = number; may_accept = true; retry = None } }
     {
         Door {
@@ -92,7 +128,7 @@ impl Door {
             return None;
         }
         match self.listener.accept() {
-            Ok((stream, _address)) => return Some(stream),
+            Ok(stream) => return Some(stream),
             Err(e) => match e.kind() {
                 ErrorKind::ConnectionAborted | ErrorKind::Interrupted => {}
                 ErrorKind::WouldBlock => self.may_accept = false,

@@ -7,12 +7,12 @@ ghost use Rattle.event_loop.specs.declared.event_loop.LoopError.TheVariants as e
 ghost use Rattle.std.specs.Time.{instant_nanos};
 ghost use Rattle.event_loop.specs.Doors.{IsAsked, IsAskedBy, IsUnreachable, asked_again, noted, noted_at};
 
-use crate::door::Door;
+use crate::door::{Door, Listener};
 use crate::event_loop::LoopError;
 use crate::poller::{MOST_LISTENERS, Poller};
 use crate::shorter::shorter;
 use connections::ScreenError;
-use mio::net::{TcpListener, TcpStream};
+use mio::net::TcpStream;
 use std::alloc::Global;
 use std::collections::VecDeque;
 use std::time::{Duration, Instant};
@@ -35,7 +35,7 @@ impl Doors {
 
     /// Adds a listener, at which a connection may wait. Refused as `TooManyListeners` where there are eight, then for want of memory, and then as `Network`
     /// where the poller is; nothing has changed then.
-    pub fn open(&mut self, poller: &Poller, mut listener: TcpListener) -> Result<(), LoopError>
+    pub fn open(&mut self, poller: &Poller, listener: Listener) -> Result<(), LoopError>
         ensures full { 8 ≤ length self.old.doors.items → result ≡ Err error.TooManyListeners }
         ensures room { length self.old.doors.items < 8 → IfErr result IsUnreachable }
         ensures opened { OnOk result ((door : Door) × (self.new.doors.items ≡ self.old.doors.items ++ door ∷ []) ×
@@ -49,7 +49,7 @@ impl Doors {
         if self.doors.reserve(1).is_err() {
             return Err(LoopError::Screen(ScreenError::OutOfMemory));
         }
-        if poller.add_listener(&mut listener, number).is_err() {
+        if poller.add_listener(&listener, number).is_err() {
             return Err(LoopError::Network);
         }
         self.doors.push_back_reserved(Door::new(listener, number));

@@ -8,12 +8,13 @@ ghost use Rattle.event_loop.specs.Doors.{IsAskedBy, IsUnreachable, asked_again, 
 ghost use Rattle.event_loop.specs.Entrance.{may_accept_browser, may_accept_viewer, is_due, goes_on};
 
 use crate::browsers::Browsers;
+use crate::door::Listener;
 use crate::doors::Doors;
 use crate::event_loop::LoopError;
 use crate::poller::Poller;
 use crate::shorter::shorter;
 use crate::socket::Peer;
-use mio::net::{TcpListener, TcpStream};
+use mio::net::TcpStream;
 use std::alloc::Global;
 use std::time::{Duration, Instant};
 
@@ -37,7 +38,7 @@ impl Entrance {
     }
 
     /// Adds a listener for viewers, as `Doors::open` does.
-    pub fn listen(&mut self, poller: &Poller, listener: TcpListener) -> Result<(), LoopError>
+    pub fn listen(&mut self, poller: &Poller, listener: Listener) -> Result<(), LoopError>
         ensures full { 8 ≤ length self.old.viewers.doors.items → result ≡ Err error.TooManyListeners }
         ensures room { length self.old.viewers.doors.items < 8 → IfErr result IsUnreachable }
         ensures err { OnErr result (self.new.viewers.doors.items ≡ self.old.viewers.doors.items) }

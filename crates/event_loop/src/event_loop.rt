@@ -1,6 +1,6 @@
 //! The loop.
 
-ghost use Rattle.std.specs.Prelude.{◌≡◌, ◌≢◌, ◌≤◌, ◌<◌, ℕ, [], None, Some, Ok, Err, true, false, IfOk, IfErr, OnOk, OnErr, MatchOption, is_some, IsSome, count_by, option_map};
+ghost use Rattle.std.specs.Prelude.{◌≡◌, ◌≢◌, ◌≤◌, ◌<◌, ℕ, [], None, Some, Ok, Err, true, false, IfOk, IfErr, IfSome, OnOk, OnErr, MatchOption, is_some, IsSome, count_by, option_map};
 ghost use Rattle.std.specs.Borrow.{sem};
 ghost use Rattle.screen.specs.declared.Config.{Config};
 ghost use Rattle.screen.specs.Alone.{config_refusal};
@@ -16,20 +16,23 @@ ghost use Rattle.event_loop.specs.Doors.{IsListenRefusal, IsUnreachable};
 ghost use Rattle.event_loop.specs.Opening.{IsOpenedOr};
 ghost use Rattle.event_loop.specs.Admitting.{IsAdmittedOr};
 ghost use Rattle.event_loop.specs.Parting.{IsLetGo};
+ghost use Rattle.event_loop.specs.Traffic.{IsTrafficOf};
 
 use crate::browsers::{Browsers, WAITING};
+use crate::door::Listener;
 use crate::entrance::Entrance;
 use crate::limits::Limits;
 use crate::poller::{Found, Poller, found_in};
 use crate::shorter::shorter;
 use crate::socket::{Peer, TakesLeave};
+use crate::traffic::Traffic;
 use crate::viewers::{Admission, Viewers};
 use connections::{
     Application, Canvas, Config, Connections, Readiness, RecordWriter, Screen, ScreenError,
 };
 use mio::Waker;
 use mio::event::Event;
-use mio::net::{TcpListener, TcpStream};
+use mio::net::{TcpListener, TcpStream, UnixListener};
 use std::alloc::{AllocError, Global};
 use std::io;
 use std::marker::Model;
@@ -38,8 +41,17 @@ use std::os::fd::{AsRawFd, RawFd};
 use std::time::{Clock, Duration, Instant};
 use web_opening::Admission as LetIn;
 
-/// How many connections are accepted in one turn, at most.
+/// How many connections are accepted in one turn, at most, of each kind.
 const ACCEPTED: u32 = 32;
+
+/// For how many milliseconds an open viewer counts as active whose socket was found ready.
+const ACTIVE: u64 = 5;
+
+/// In how many milliseconds one who comes is seen to, while a viewer is active.
+const APART: u64 = 4;
+
+/// How many milliseconds ahead of that they may be who come at once: 64 of them.
+const AHEAD: u64 = 64 * APART;
 
 /// Why a loop ended, or didn't listen.
 #[derive(Clone, Copy, Debug, PartialEq, Eq)]
@@ -73,6 +85,13 @@ pub struct EventLoop {
     viewers: Viewers<Peer>,
     // when the first turn came
     began: Option<Instant>,
+    // how many milliseconds behind that the last one was
+    time: u64,
+    // the socket of an open viewer was found ready at the last wait, and when one was last
+    is_active: bool,
+    active: Option<Instant>,
+    // when the next of those who come would be seen to, had each waited for it
+    next_due: Option<Instant>,
     // another thread woke the loop
     is_woken: bool,
     // what the program's own stream was found ready for, until the application did all that it can with it
@@ -90,6 +109,10 @@ impl Drop for EventLoop {
             entrance: _entrance,
             viewers: _viewers,
             began: _began,
+            time: _time,
+            is_active: _is_active,
+            active: _active,
+            next_due: _next_due,
             is_woken: _is_woken,
             watched: _watched,
             has_ticked: _has_ticked,
@@ -106,16 +129,18 @@ impl Model for EventLoop {
     ghost view = { λ a. a.viewers.connections };
 }
 
-/// What the poller found that is the application's.
+/// What the poller found besides what is a connection's.
 #[derive(Clone, Copy)]
 struct Noted {
+    /// The socket of an open viewer is ready.
+    is_active: bool,
     /// Another thread woke the loop.
     is_woken: bool,
     /// What the program's own stream is ready for.
     watched: Option<Readiness>,
 }
 
-/// Records one event of the poller; in `noted` what is the application's.
+/// Records one event of the poller; in `noted` what isn't a connection's alone.
 fn note(
     event: &Event,
     connections: &mut Connections<Peer>,
@@ -130,12 +155,15 @@ fn note(
         Found::Request => entrance.note_request(),
         Found::Woken => noted.is_woken = true,
         Found::Watched(readiness) => noted.watched = Some(readiness),
-        Found::Connection(key, readiness) => connections.note(key, readiness)?,
+        Found::Connection(key, readiness) => {
+            noted.is_active = noted.is_active || connections.is_open(key);
+            connections.note(key, readiness)?;
+        }
     }
     Ok(())
 }
 
-/// Records what the poller found. Returns what of it is the application's.
+/// Records what the poller found. Returns what of it isn't a connection's alone.
 fn note_found(
     poller: &Poller,
     connections: &mut Connections<Peer>,
@@ -144,6 +172,7 @@ fn note_found(
     ensures served { GoesOnServing connections.old connections.new }
 {
     let mut noted = Noted {
+        is_active: false,
         is_woken: false,
         watched: None,
     };
@@ -163,7 +192,7 @@ fn entrance_of(
 {
     let mut entrance = Entrance::new(alloc);
     if let Some(listener) = listener {
-        entrance.listen(poller, listener)?;
+        entrance.listen(poller, Listener::Tcp(listener))?;
     }
     Ok(entrance)
 }
@@ -247,6 +276,24 @@ impl EventLoop {
         }
     }
 
+    /// Returns the same, and writes what happens to the screen as a session, as `recorded` does.
+    pub fn unbound_recorded<R: Net>(
+        rt: &R,
+        alloc: Global,
+        config: Config,
+        limits: Limits,
+        writer: RecordWriter,
+    ) -> Result<EventLoop, LoopError>
+        ensures serves { IfOk result (λ served. Serves config (sockets_and (Some (bytes_held writer)) config) [] served) }
+        ensures accepted { OnOk result (config_refusal config ≡ None) }
+        ensures refused { MatchOption (config_refusal config) (IsOpenedOr result) (λ e. result ≡ Err (error.Screen e)) }
+    {
+        match Connections::recorded(alloc, config, writer) {
+            Ok(connections) => EventLoop::of(rt, alloc, None, connections, limits),
+            Err(refusal) => Err(LoopError::Screen(refusal)),
+        }
+    }
+
     /// Returns a loop over connections that were made.
     fn of<R: Net>(
         rt: &R,
@@ -267,6 +314,10 @@ impl EventLoop {
             entrance,
             viewers: Viewers::new(alloc, connections, limits),
             began: None,
+            time: 0,
+            is_active: false,
+            active: None,
+            next_due: None,
             is_woken: false,
             watched: None,
             has_ticked: false,
@@ -281,7 +332,15 @@ impl EventLoop {
         ensures same { self.new ≡ self.old }
         ensures refused { IfErr result IsListenRefusal }
     {
-        self.entrance.listen(&self.poller, listener)
+        self.entrance.listen(&self.poller, Listener::Tcp(listener))
+    }
+
+    /// Listens for viewers at a socket of UNIX, as `listen` does at a port. `viewer_address` answers a failure for those who come by it.
+    pub fn listen_unix(&mut self, listener: UnixListener) -> Result<(), LoopError>
+        ensures same { self.new ≡ self.old }
+        ensures refused { IfErr result IsListenRefusal }
+    {
+        self.entrance.listen(&self.poller, Listener::Unix(listener))
     }
 
     /// Lets browsers in from now on that come by a listener of their own and are viewers over WebSockets (RFC 6455), with the same limits.
@@ -360,6 +419,29 @@ impl EventLoop {
         let key = self.viewers.connections.key_of(viewer)?;
         let socket = self.viewers.connections.transport(key)?;
         Some(socket.address())
+    }
+
+    /// Returns what moved of a viewer; None where it isn't connected.
+    pub fn viewer_traffic(&self, viewer: u64) -> Option<Traffic>
+        ensures some { IfSome result (IsTrafficOf self.now viewer) }
+        ensures none { result ≡ None → (key : ℕ) → number_at self.now.slots key ≢ Some viewer }
+    {
+        let connections = &self.viewers.connections;
+        let key = connections.key_of(viewer)?;
+        let updates = connections.cuts(key)?;
+        let heard_at = connections.heard_at(key)?;
+        let (received, sent) = connections.transport(key)?.moved();
+        Some(Traffic {
+            received,
+            sent,
+            updates,
+            heard_at: Duration::from_millis(heard_at),
+        })
+    }
+
+    /// Returns how long behind the first turn the last one was.
+    pub fn last_turn(&self) -> Duration {
+        Duration::from_millis(self.time)
     }
 
     /// Returns what ends a wait from another thread: the application is told that it was woken. One loop has one waker.
@@ -497,13 +579,49 @@ impl EventLoop {
         self.entrance.may_accept() && self.viewers.accepts_next()
     }
 
+    /// Returns whether somebody came who is to be seen to: a connection, or more of a request.
+    fn has_come(&self) -> bool {
+        self.accepts() || self.entrance.is_due() || self.entrance.goes_on()
+    }
+
+    /// Returns whether the socket of an open viewer was found ready lately.
+    fn is_active_at(&self, now: Instant) -> bool {
+        self.active.is_some_and(|then| now.duration_since(then) < Duration::from_millis(ACTIVE))
+    }
+
+    /// Returns how long who comes is to wait. Nobody waits while no viewer is active. Else it is one in four milliseconds behind the first 64,
+    /// so that who comes takes little of an active viewer's time, however many they are.
+    fn pause(&self, now: Instant) -> Duration {
+        match self.next_due {
+            Some(due) if self.is_active_at(now) => due
+                .duration_since(now)
+                .saturating_sub(Duration::from_millis(AHEAD)),
+            _ => Duration::ZERO,
+        }
+    }
+
+    /// Returns how many connections are accepted and how many requests gone on with now, at most: one, which is counted, while a viewer is
+    /// active.
+    fn most_at(&mut self, now: Instant) -> (u32, usize)
+        ensures same { self.new ≡ self.old }
+    {
+        if !self.is_active_at(now) {
+            return (ACCEPTED, WAITING);
+        }
+        let due = self.next_due.unwrap_or(now);
+        let from = if now < due { due } else { now };
+        self.next_due = from.checked_add(Duration::from_millis(APART));
+        (1, 1)
+    }
+
     /// Returns how long a turn may wait.
     fn wait_for(&self, now: Instant, timeout: Option<Duration>) -> Option<Duration> {
-        if !self.has_ticked || self.accepts() || self.entrance.goes_on() || self.watched.is_some() {
+        if !self.has_ticked || self.watched.is_some() {
             return Some(Duration::ZERO);
         }
         let until = |then: Instant| then.duration_since(now);
         let mut wait = shorter(timeout, self.viewers.newcomers.next_after(now));
+        wait = shorter(wait, self.has_come().then_some(self.pause(now)));
         wait = shorter(wait, self.next_tick.map(until));
         wait = shorter(wait, self.entrance.next_after(now));
         shorter(
@@ -529,6 +647,7 @@ impl EventLoop {
         )?;
         self.is_woken = noted.is_woken;
         self.watched = both(self.watched, noted.watched);
+        self.is_active = noted.is_active;
         now_by(clock)
     }
 
@@ -546,7 +665,7 @@ impl EventLoop {
         self.tick(now, application)
     }
 
-    /// Accepts connections that wait, answers browsers' requests, and lets viewers go that took too long for their opening.
+    /// Sees to those who come, and lets viewers go that took too long for their opening.
     fn come_and_go<A: Application>(
         &mut self,
         now: Instant,
@@ -556,10 +675,22 @@ impl EventLoop {
         ensures stands { Stays A.stands application.old application.new }
     {
         self.retry(now);
-        self.accept_some(now, application)?;
-        self.answer_some(now, application)?;
+        self.see_to(now, application)?;
         self.viewers.let_go(now)?;
         Ok(())
+    }
+
+    /// Accepts connections that wait, and answers browsers' requests, unless these are to wait.
+    fn see_to<A: Application>(&mut self, now: Instant, application: &mut A) -> Result<(), LoopError>
+        ensures served { GoesOnServing self.old self.new }
+        ensures stands { Stays A.stands application.old application.new }
+    {
+        if !self.has_come() || self.pause(now) > Duration::ZERO {
+            return Ok(());
+        }
+        let (accepted, answered) = self.most_at(now);
+        self.accept_some(now, accepted, application)?;
+        self.answer_some(now, answered, application)
     }
 
     /// Returns how many milliseconds passed since the first turn.
@@ -568,7 +699,8 @@ impl EventLoop {
     {
         let began = self.began.unwrap_or(now);
         self.began = Some(began);
-        u64::try_from(now.duration_since(began).as_millis()).unwrap_or(u64::MAX)
+        self.time = u64::try_from(now.duration_since(began).as_millis()).unwrap_or(u64::MAX);
+        self.time
     }
 
     /// Hears what viewers sent, writes what they are given, and parts with those that ended.
@@ -606,10 +738,14 @@ impl EventLoop {
         Ok(())
     }
 
-    /// Asks the listeners again, where the time for this has come, and lets browsers go whose requests took too long.
+    /// Notes that a viewer is active, where one is, asks the listeners again, where the time for this has come, and lets browsers go whose
+    /// requests took too long.
     fn retry(&mut self, now: Instant)
         ensures same { self.new ≡ self.old }
     {
+        if self.is_active {
+            self.active = Some(now);
+        }
         self.entrance.retry(now);
         self.entrance.let_go(now);
     }
@@ -628,16 +764,17 @@ impl EventLoop {
         Ok(())
     }
 
-    /// Accepts connections that wait, 32 at most of each kind.
+    /// Accepts connections that wait, so many at most of each kind.
     fn accept_some<A: Application>(
         &mut self,
         now: Instant,
+        most: u32,
         application: &mut A,
     ) -> Result<(), LoopError>
         ensures served { GoesOnServing self.old self.new }
         ensures stands { Stays A.stands application.old application.new }
     {
-        for _ in 0..ACCEPTED {
+        for _ in 0..most {
             if !self.accepts() {
                 return Ok(());
             }
@@ -673,16 +810,17 @@ impl EventLoop {
         self.entrance.next_stream(now)
     }
 
-    /// Goes on with each request of which more may have come, and takes those in that are accepted.
+    /// Goes on with requests of which more may have come, so many at most, and takes those in that are accepted.
     fn answer_some<A: Application>(
         &mut self,
         now: Instant,
+        most: usize,
         application: &mut A,
     ) -> Result<(), LoopError>
         ensures served { GoesOnServing self.old self.new }
         ensures stands { Stays A.stands application.old application.new }
     {
-        for _ in 0..WAITING {
+        for _ in 0..most {
             if !self.entrance.is_due() {
                 return Ok(());
             }

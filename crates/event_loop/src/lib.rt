@@ -10,8 +10,8 @@
 //! served.run(rt, &mut application)?;
 //! ```
 //!
-//! A loop without a listener is made by `EventLoop::unbound`. Any loop listens further by `EventLoop::listen`, and takes in connections
-//! that the program has by `EventLoop::adopt`. `EventLoop::listen_web` lets browsers in by a listener of their own, over WebSockets
+//! A loop without a listener is made by `EventLoop::unbound`. Any loop listens further by `EventLoop::listen`, or at a socket of UNIX by
+//! `EventLoop::listen_unix`, and takes in connections that the program has by `EventLoop::adopt`. `EventLoop::listen_web` lets browsers in by a listener of their own, over WebSockets
 //! (RFC 6455). `EventLoop::watch` has the application told where a stream of the program's own is ready.
 //!
 //! What a viewer is sent is what its stream is written, whatever stream that is, and nothing else; no clause says what a socket delivers,
@@ -29,6 +29,7 @@ mod poller;
 mod request;
 mod shorter;
 mod socket;
+mod traffic;
 mod viewers;
 
 pub use connections::{
@@ -38,5 +39,6 @@ pub use connections::{
 pub use event_loop::{EventLoop, LoopError};
 pub use limits::{Limits, WhenFull};
 pub use mio::Waker;
+pub use traffic::Traffic;
 pub use viewers::Admission;
 pub use web_opening::Admission as LetIn;

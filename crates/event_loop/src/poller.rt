@@ -1,6 +1,6 @@
 //! Which sockets are ready.
 
-ghost use Rattle.std.specs.Prelude.{◌≡◌, ◌<◌};
+ghost use Rattle.std.specs.Prelude.{◌<◌};
 
 use connections::Readiness;
 use mio::event::Event;
@@ -68,13 +68,15 @@ impl Poller {
     }
 
     /// Reports from now on that a connection waits at the listener for viewers with this number.
-    pub fn add_listener(&self, listener: &mut TcpListener, number: usize) -> io::Result<()>
+    pub fn add_listener(&self, listener: &impl AsRawFd, number: usize) -> io::Result<()>
         requires { number < 8 }
-        ensures { listener.new ≡ listener.old }
     {
-        self.poll
-            .registry()
-            .register(listener, Token(LISTENERS + number), Interest::READABLE)
+        let descriptor = listener.as_raw_fd();
+        self.poll.registry().register(
+            &mut SourceFd(&descriptor),
+            Token(LISTENERS + number),
+            Interest::READABLE,
+        )
     }
 
     /// Reports from now on that a connection waits at the listener for browsers.

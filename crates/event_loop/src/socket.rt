@@ -4,6 +4,7 @@ ghost use Rattle.std.specs.Prelude.{◌≡◌, Bool, true, false, take, IfOk, If
 ghost use Rattle.std.specs.Io.{ReadsAtMost, StartsWith, WritesAtMost};
 ghost use Rattle.std.specs.Io.KnownBytes.{ReadConsumes, WriteAppends, Keeps};
 ghost use Rattle.turned_away.specs.Refusal.{refusal, reason};
+ghost use Rattle.event_loop.specs.Traffic.{counted};
 
 use connections::Transport;
 use keepalive::keep_alive;
@@ -100,14 +101,33 @@ pub(crate) trait Peek: Transport {
 #[derive(Drop)]
 pub struct Socket<S> {
     stream: S,
+    // how many bytes were received, and how many were sent
+    received: u64,
+    sent: u64,
 }
 
 impl<S> Socket<S> {
     /// Returns a transport of a stream, with which nothing was done.
     pub(crate) fn new(stream: S) -> Socket<S>
-        ensures { result.stream ≡ stream }
+        ensures stream { result.stream ≡ stream }
+        ensures received { result.received ≡ 0 }
+        ensures sent { result.sent ≡ 0 }
     {
-        Socket { stream }
+        Socket {
+            stream,
+            received: 0,
+            sent: 0,
+        }
+    }
+}
+
+/// Returns a count with so many more as a read or a write moved; a failed one moved none. It stops at 2^64 - 1.
+fn counted(count: u64, moved: &io::Result<usize>) -> u64
+    ensures { result ≡ counted count moved.now }
+{
+    match moved {
+        Ok(more) => count.saturating_add(*more as u64),
+        Err(_) => count,
     }
 }
 
@@ -127,15 +147,23 @@ impl<S: Read + Write + MayHoldBack + Drop> Transport for Socket<S> {
     fn receive(&mut self, room: &mut [u8]) -> io::Result<usize>
         ensures bound { ReadsAtMost result room.new }
         ensures read { ReadConsumes (S.remaining self.old.stream) (S.remaining self.new.stream) result room.new }
+        ensures received { self.new.received ≡ counted self.old.received result }
+        ensures sent { self.new.sent ≡ self.old.sent }
     {
-        self.stream.read(room)
+        let read = self.stream.read(room);
+        self.received = counted(self.received, &read);
+        read
     }
 
     fn send(&mut self, bytes: &[u8]) -> io::Result<usize>
         ensures bound { WritesAtMost result bytes.now }
         ensures written { WriteAppends (S.contents self.old.stream) (S.contents self.new.stream) result bytes.now }
+        ensures sent { self.new.sent ≡ counted self.old.sent result }
+        ensures received { self.new.received ≡ self.old.received }
     {
-        self.stream.write(bytes)
+        let written = self.stream.write(bytes);
+        self.sent = counted(self.sent, &written);
+        written
     }
 
     fn has_more(&self) -> bool {
@@ -226,6 +254,14 @@ impl Peer {
         match Box::new(alloc, socket) {
             Ok(socket) => Some(Peer::Browser(socket)),
             Err(_) => None,
+        }
+    }
+
+    /// Returns how many bytes of its viewer's were received, and how many were sent to it: of a browser's the payloads of its frames.
+    pub(crate) fn moved(&self) -> (u64, u64) {
+        match self {
+            Peer::Plain(socket) => (socket.received, socket.sent),
+            Peer::Browser(socket) => (socket.received, socket.sent),
         }
     }
 

@@ -16,7 +16,7 @@ ghost use Rattle.c_screen.specs.Codes as codes;
 ghost use Rattle.c_screen.specs.Calls.{colour_at, of_viewer};
 ghost use Rattle.c_screen.specs.Desk.{rect_of, config_of};
 ghost use Rattle.c_server.specs.Desk.{nothing_there, rects_per_update};
-ghost use Rattle.c_server.specs.Calls.{Listens, ListensFurther, ServesUnbound, Adopts, NamesRecord, record_state, TakesTurn, Draws, DrawsRegion, FetchesInputs, FetchesVisits, ShowsNumbers, ShowsText, ShowsSettings, Tells, TellsAddress, TellsSome, TellsWait, LetsGo, TakesPixels, Wakes};
+ghost use Rattle.c_server.specs.Calls.{Listens, ListensAt, ListensFurther, ServesUnbound, Adopts, NamesRecord, record_state, TakesTurn, Draws, DrawsRegion, FetchesInputs, FetchesVisits, ShowsNumbers, ShowsText, ShowsSettings, ShowsTraffic, Tells, TellsAddress, TellsSome, TellsWait, LetsGo, TakesPixels, Wakes};
 ghost use Rattle.c_screen.specs.Pixels.{format_of, source_from};
 ghost use Rattle.source_pixels.specs.declared.formats.SourceFormat.TheVariants as format;
 
@@ -120,6 +120,16 @@ pub unsafe extern "C" fn vnc_server_listen_also_n(at: *mut Place, address: &[u8]
     ServerDesk::listen_also(&mut *(at as *mut ServerDesk), address, port)
 }
 
+/// Listens at the bound socket that `fd` is (`ServerDesk::listen_at`).
+#[unsafe(no_mangle)]
+pub unsafe extern "C" fn vnc_server_listen_at(at: *mut Place, fd: i32) -> i32
+    ghost before: { desk_row.Denot }
+    requires* { sem 𝓛 (holds at before) }
+    ensures* { sem 𝓛 (leaves at (λ after. ListensAt fd before after result)) }
+{
+    ServerDesk::listen_at(&mut *(at as *mut ServerDesk), fd)
+}
+
 /// Listens on a port for browsers (`ServerDesk::listen_web`).
 #[unsafe(no_mangle)]
 pub unsafe extern "C" fn vnc_server_listen_web_n(
@@ -204,6 +214,16 @@ pub unsafe extern "C" fn vnc_server_viewer_address_n(
     ensures* { sem 𝓛 (leaves at (λ after. TellsAddress viewer before after room.old room.new result)) }
 {
     ServerDesk::viewer_address(&mut *(at as *mut ServerDesk), viewer, room)
+}
+
+/// Puts the first numbers of what moved of `viewer` into `room` (`ServerDesk::traffic`).
+#[unsafe(no_mangle)]
+pub unsafe extern "C" fn vnc_server_traffic_n(at: *mut Place, viewer: u64, room: &mut [u64]) -> i32
+    ghost before: { desk_row.Denot }
+    requires* { sem 𝓛 (holds at before) }
+    ensures* { sem 𝓛 (leaves at (λ after. ShowsTraffic viewer before after room.old room.new result)) }
+{
+    ServerDesk::traffic(&mut *(at as *mut ServerDesk), viewer, room)
 }
 
 /// Returns the system's handle that is ready to be read when something came over the network (`ServerDesk::fd`).

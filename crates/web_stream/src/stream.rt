@@ -71,6 +71,11 @@ impl<S> WebStream<S> {
         }
     }
 
+    /// Returns whether the close is written, or on its way: no data goes behind it (RFC 6455, section 5.5.1).
+    fn has_closed(&self) -> bool {
+        self.inward.over().is_some() && !self.inward.has_answer()
+    }
+
     /// Returns whether a pong or a close waits that `flush` would write.
     pub fn owes(&self) -> bool
         ensures { result ≡ owes_in self.now }
@@ -86,8 +91,8 @@ impl<S> WebStream<S> {
         self.was_full || self.inward.over().is_some()
     }
 
-    /// Closes it with a code (RFC 6455, section 7.1.2), unless it is over. Nothing is read from it or written to it from then on but the
-    /// close, by `flush`, which is not written within a data frame.
+    /// Closes it with a code (RFC 6455, section 7.1.2), unless it is over. Nothing is read from it from then on. The close is written by
+    /// `flush`, not within a data frame, and nothing behind it.
     pub fn close(&mut self, code: u16)
         ensures { reading_in self.new ≡ closed (reading_in self.old) code }
     {
@@ -220,6 +225,21 @@ impl<S: WriteBoth> WebStream<S> {
         self.write_own()
     }
 
+    /// Writes what goes before a data frame begins, unless one is on its way: what is left of a control frame, and the answer that waits. A
+    /// close waits for `flush`, since no data goes behind it.
+    fn write_before(&mut self) -> io::Result<()>
+        ensures kept { Keeps (contents_in S.contents self.old) (contents_in S.contents self.new) }
+        ensures whole { OnOk result (self.new.outward.owed ≡ 0 → self.new.outward.own.items ≡ []) }
+    {
+        if self.inward.over().is_none() {
+            return self.write_answer();
+        }
+        match self.outward.owed {
+            0 => self.write_own(),
+            _ => Ok(()),
+        }
+    }
+
     /// Writes once what is left of a head, and the payload of its frame behind it. Returns how many bytes of payload were taken, which may be
     /// none.
     fn write_joined(&mut self, bytes: &[u8]) -> io::Result<usize>
@@ -250,19 +270,20 @@ impl<S: WriteBoth> WebStream<S> {
 impl<S: WriteBoth> Write for WebStream<S> {
     ghost contents = { contents_in S.contents };
 
-    /// Writes bytes as the payload of a binary frame of their length, after what `flush` would write. Where the stream below takes fewer,
-    /// the bytes of the next write go on with that frame.
+    /// Writes bytes as the payload of a binary frame of their length, after a pong that waits and before a close that does. Where the stream
+    /// below takes fewer, the bytes of the next write go on with that frame.
     ///
-    /// Fails as `BrokenPipe` once the frames are over, and as `Interrupted` where the stream below took only bytes that are no payload.
+    /// Fails as `BrokenPipe` once the close is written or on its way, and as `Interrupted` where the stream below took only bytes that are no
+    /// payload.
     #[tactic(auto, using(crate::proofs::WritingLemmas::behind_answers))]
     fn write(&mut self, bytes: &[u8]) -> io::Result<usize> {
-        if let Some(_over) = self.inward.over() {
+        if self.has_closed() {
             return Err(io::Error::from(ErrorKind::BrokenPipe));
         }
         if bytes.is_empty() {
             return Ok(0);
         }
-        self.write_answer()?;
+        self.write_before()?;
         self.begin(bytes.len());
         self.write_frame(bytes)
     }

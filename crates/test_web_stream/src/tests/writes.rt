@@ -102,3 +102,43 @@ fn a_close_of_the_server_ends_both_ways(rt: HostRuntime) -> Result<(), Fail> {
     );
     Ok(())
 }
+
+/// What a client sends last, a byte of payload before each, and the close that answers it: a close, a text frame, a frame without a mask.
+static LAST: [(&[u8], &[u8]); 3] = [
+    (
+        b"\x82\x81\x37\xfa\x21\x3d\x7f\x88\x80\x37\xfa\x21\x3d",
+        b"\x88\x00",
+    ),
+    (
+        b"\x82\x81\x37\xfa\x21\x3d\x7f\x81\x81\x37\xfa\x21\x3d\x7f",
+        b"\x88\x02\x03\xeb",
+    ),
+    (b"\x82\x81\x37\xfa\x21\x3d\x7f\x82\x05", b"\x88\x02\x03\xea"),
+];
+
+/// Reads once, writes five bytes to a line that takes few at once, and then what waits. Returns whether these went in this order, and
+/// whether nothing goes behind the close.
+fn closes_behind(mut line: Line, takes: usize, close: &[u8]) -> io::Result<bool> {
+    line.takes = takes;
+    let mut stream = WebStream::new(line, 0);
+    let mut room = [0; 40];
+    let read = stream.read(&mut room)?;
+    write_whole(&mut stream, b"Hello")?;
+    for _flushes in 0..9u8 {
+        let _flushed = stream.flush();
+    }
+    let written = stream.get_ref().written.as_slice();
+    let is_so = written.strip_prefix(b"\x82\x05Hello".as_slice()) == Some(close);
+    Ok(read == 1 && is_so && stream.write(b"Hello").is_err())
+}
+
+#[test]
+fn an_answer_goes_before_the_close(rt: HostRuntime) -> Result<(), Fail> {
+    for (bytes, close) in LAST.iter() {
+        for takes in 1..9usize {
+            let line = Line::new(rt.alloc(), bytes, 0);
+            assert!(rt; closes_behind(line, takes, close)?, "{takes}");
+        }
+    }
+    Ok(())
+}

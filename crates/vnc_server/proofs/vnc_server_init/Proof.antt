@@ -1,5 +1,5 @@
 -- `vnc_server_init` writes a desk that is shut to the room at the pointer.
-use Rattle.vnc_server.proofs.Steps.{[], ◌∷◌, ◌++◌, List, ◌≡◌, refl, proved, full_share, id⊢, ftrue, vunit, vptr, tables, ‵, raw, ◌⊛◌, some, later, prop, ◌$◌, ◌∵◌, !, qed, done, move, drop, keep, use1, use2, split, join, fsplit, fpack, feq_i, pick, await, regoal, suffices, group, enter, of_opd, unit_lit, stop, init, no_more, and_then, assigns, returns, alloc_all, pass_all, free_all, look_at, get, through, sets, lands_as, yes, Ptr, RawPtr, block_ptr, lies_at, room_at, in_a_block, rawptr_vals, rawptr_Tells, plain, owns, types_at, nothing, peeks, Is, calls_at, lasts, Lasts, triple_of, Stays, walk_of, stay_dropped, Goes-dropped, ends_at, framed, shows, WpFn}
+use Rattle.vnc_server.proofs.Steps.{[], ◌∷◌, ◌++◌, ◌≡◌, refl, proved, full_share, id⊢, ftrue, vunit, tables, ‵, raw, ◌⊛◌, some, later, prop, ◌$◌, ◌∵◌, !, qed, done, move, drop, keep, use1, use2, split, join, fsplit, fpack, feq_i, pick, await, regoal, suffices, group, enter, of_opd, unit_lit, stop, init, no_more, and_then, assigns, returns, alloc_all, pass_all, free_all, look_at, get, through, sets, lands_as, yes, Ptr, RawPtr, block_ptr, room_at, in_a_block, rawptr_vals, rawptr_Tells, plain, owns, types_at, nothing, peeks, Is, calls_at, lasts, Lasts, triple_of, Stays, walk_of, stay_dropped, Goes-dropped, ends_at, framed, shows, WpFn}
 use contract.Monad.{fact}
 use denote.Steps.{heard}
 use borrow.Table.OneValue.{part_in}
@@ -8,7 +8,7 @@ use Rattle.std.specs.contracts.alloc.Global as heap
 use Rattle.std.proofs.alloc.Global.TheLaws as heap_laws
 use Rattle.c_server.specs.Desk.{nothing_there}
 use Rattle.c_server.proofs.desk.ServerDesk.TheLaws.{the_row_laws}
-use Rattle.vnc_server.specs.Lying.{desk_row, holds, leaves}
+use Rattle.vnc_server.specs.Lying.{desk_row, holds}
 use Rattle.vnc_server.specs.contracts.vnc_server_init as f
 use Rattle.vnc_server.proofs.vnc_server_init.Statement.{statement}
 use Rattle.vnc_server.proofs.vnc_server_init.Code as code

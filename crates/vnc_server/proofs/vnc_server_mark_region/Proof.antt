@@ -11,7 +11,7 @@ use Rattle.c_screen.specs.Codes as codes
 use Rattle.c_screen.specs.Calls.{colour_at, of_viewer}
 use Rattle.c_screen.specs.Desk.{rect_of, config_of}
 use Rattle.c_server.specs.Desk.{nothing_there, rects_per_update}
-use Rattle.c_server.specs.Calls.{Listens, ListensFurther, ServesUnbound, Adopts, NamesRecord, record_state, TakesTurn, Draws, DrawsRegion, FetchesInputs, FetchesVisits, ShowsNumbers, ShowsText, ShowsSettings, Tells, TellsAddress, TellsSome, TellsWait, LetsGo, TakesPixels, Wakes}
+use Rattle.c_server.specs.Calls.{Listens, ListensAt, ListensFurther, ServesUnbound, Adopts, NamesRecord, record_state, TakesTurn, Draws, DrawsRegion, FetchesInputs, FetchesVisits, ShowsNumbers, ShowsText, ShowsSettings, ShowsTraffic, Tells, TellsAddress, TellsSome, TellsWait, LetsGo, TakesPixels, Wakes}
 use Rattle.c_screen.specs.Pixels.{format_of, source_from}
 use Rattle.source_pixels.specs.declared.formats.SourceFormat.TheVariants as format
 use Rattle.c_screen.specs.contracts.corners.Corners.{the_row as Corners-row}

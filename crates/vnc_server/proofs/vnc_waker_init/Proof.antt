@@ -1,11 +1,11 @@
 -- `vnc_waker_init` lends the desk at its pointer for a call that makes a waker, and writes that to the room at the other pointer.
 use base.Fml.{fsep}
-use Rattle.vnc_server.proofs.Steps.{◌≡◌, ℕ, List, [], ◌∷◌, ◌++◌, refl, vint, vunit, vptr, proved, full_share, id⊢, ftrue, fex, flft, flent, named, tables, ‵, raw, ◌⊛◌, some, later, prop, ◌$◌, ◌∵◌, !, qed, done, move, keep, drop, use1, use2, use3, split, join, fsplit, fjoin, fpick, fpack, feq_i, pick, await, regoal, suffices, group, enter, of_opd, unit_lit, addr, stop, init, no_more, and_then, assigns, returns, alloc_all, pass_all, free_all, look_at, get, through, sets, lands_as, lft_new, lft_end, yes, lends_ref, ref_back, Body, mem, Ptr, RawPtr, block_ptr, lies_at, room_at, in_a_block, rawptr_vals, rawptr_Tells, MutRef, plain, nothing, peeks, shows, Is, owns, types_at, calls_at, lasts, Lasts, triple_of, Stays, walk_of, stay_dropped, Goes-dropped, ends_at, framed, WpFn}
+use Rattle.vnc_server.proofs.Steps.{◌≡◌, ℕ, List, [], ◌∷◌, ◌++◌, refl, vunit, vptr, proved, full_share, id⊢, ftrue, fex, flft, flent, named, tables, ‵, raw, ◌⊛◌, some, later, prop, ◌$◌, ◌∵◌, !, qed, done, move, keep, drop, use1, use2, use3, split, join, fsplit, fjoin, fpack, feq_i, pick, await, regoal, suffices, group, enter, of_opd, unit_lit, addr, stop, init, no_more, and_then, assigns, returns, alloc_all, pass_all, free_all, look_at, get, through, sets, lands_as, lft_new, lft_end, yes, lends_ref, ref_back, Body, mem, Ptr, RawPtr, block_ptr, lies_at, room_at, in_a_block, rawptr_vals, rawptr_Tells, MutRef, plain, nothing, peeks, shows, Is, owns, types_at, calls_at, lasts, Lasts, triple_of, Stays, walk_of, stay_dropped, Goes-dropped, ends_at, framed, WpFn}
 use contract.Monad.{fact}
 use denote.Steps.{heard}
 use borrow.Table.OneValue.{part_in}
 use Rattle.c_server.proofs.waker.ServerWaker.TheLaws.{the_row_laws}
-use Rattle.vnc_server.specs.Lying.{desk_row, waker_row, holds, holds_waker, leaves_beside_waker}
+use Rattle.vnc_server.specs.Lying.{desk_row, waker_row, holds}
 use Rattle.vnc_server.specs.contracts.vnc_waker_init as f
 use Rattle.vnc_server.proofs.vnc_waker_init.Statement.{statement}
 use Rattle.vnc_server.proofs.vnc_waker_init.Code as code

@@ -1,4 +1,4 @@
-use Rattle.std.proofs.Common.{ap, refl, inl, inr, subst, sym}
+use Rattle.std.proofs.Common.{ap, inl}
 use Rattle.connections.specs.Telling.{inputs_told}
 use Rattle.c_server.proofs.Keeping.{visit-kept}
 use Rattle.c_server.proofs.gathering.GatheringApplication.came.Goals as goal

@@ -1,4 +1,4 @@
-use Rattle.std.proofs.Common.{ℕ, List, ap, refl, inl, inr, subst, sym}
+use Rattle.std.proofs.Common.{ℕ, List, ap, inr, subst, sym}
 use Rattle.std.specs.VecDeque.{deque_capacity}
 use Rattle.screen.specs.declared.Input.{Input}
 use Rattle.connections.specs.Telling.{inputs_told}

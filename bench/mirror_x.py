@@ -1,0 +1,232 @@
+#!/usr/bin/env python3
+"""mirror_x.py PROGRAM [--seconds 5] [--viewers 32] [--only REGEX]: `vncdemo mirror` in front of Xvnc and of x11vnc on Xvfb, 1920 by 1080.
+
+For each of the two it prints by how much a dot comes later to a viewer of the mirror than to one of the source, on the same dots; the
+processor time of source and mirror for a second in which a square of 100 by 100 changes each 40 milliseconds, with one viewer and with many
+behind the mirror, and of the source that serves as many itself; and what a viewer of the mirror that never reads leaves to another that asks for all over and over.
+It wants Xvnc, Xvfb, x11vnc and a C compiler with Xlib. The status is 1 where a figure isn't what it should be."""
+import argparse
+import glob
+import os
+import re
+import selectors
+import socket
+import statistics
+import struct
+import subprocess
+import sys
+import tempfile
+import time
+
+from mirror import Mirror, receive
+
+WIDTH, HEIGHT = 1920, 1080
+FORMAT = bytes([32, 24, 0, 1, 0, 255, 0, 255, 0, 255, 16, 8, 0, 0, 0, 0])
+WHOLE = struct.pack(">BBHHHH", 3, 0, 0, 0, WIDTH, HEIGHT)
+CHANGES = struct.pack(">BBHHHH", 3, 1, 0, 0, WIDTH, HEIGHT)
+HERE = os.path.dirname(os.path.abspath(__file__))
+
+
+def free_port():
+    with socket.create_server(("127.0.0.1", 0)) as it:
+        return it.getsockname()[1]
+
+
+def spent(pid):
+    """The processor time of a process's threads, in milliseconds."""
+    return sum(int(open(it).read().split()[0]) for it in glob.glob(f"/proc/{pid}/task/*/schedstat")) / 1e6
+
+
+class Server:
+    """A display, the server that shows it, and what draws on it."""
+
+    def __init__(self, kind, draws):
+        self.port, display = free_port(), f":{os.getpid() % 10_000 + (100 if kind == 'Xvnc' else 200)}"
+        quiet = {"stdout": subprocess.DEVNULL, "stderr": subprocess.DEVNULL}
+        if kind == "Xvnc":
+            words = ["Xvnc", display, "-geometry", f"{WIDTH}x{HEIGHT}", "-depth", "24", "-SecurityTypes", "None", "-rfbport", str(self.port), "-localhost"]
+            self.all = [subprocess.Popen(words, **quiet)]
+        else:
+            self.all = [subprocess.Popen(["Xvfb", display, "-screen", "0", f"{WIDTH}x{HEIGHT}x24"], **quiet)]
+            time.sleep(1)
+            words = ["x11vnc", "-display", display, "-rfbport", str(self.port), "-forever", "-shared", "-nopw", "-localhost", "-quiet", "-nocursor"]
+            self.all.append(subprocess.Popen(words, **quiet))
+        self.server = self.all[-1]
+        time.sleep(2)
+        self.drawer = subprocess.Popen([draws], env=dict(os.environ, DISPLAY=display), stdin=subprocess.PIPE, stdout=subprocess.PIPE, text=True)
+        self.all.append(self.drawer)
+        self.drawer.stdout.readline()
+
+    def draw(self, line):
+        self.drawer.stdin.write(line + "\n")
+        self.drawer.stdin.flush()
+        self.drawer.stdout.readline()
+
+    def end(self):
+        for it in reversed(self.all):
+            it.kill()
+            it.wait()
+
+
+class Viewer:
+    """A viewer of Raw in 32 bits that keeps nothing of what it is shown."""
+
+    def __init__(self, port):
+        self.stream = socket.create_connection(("127.0.0.1", port))
+        self.stream.settimeout(20)
+        self.stream.setsockopt(socket.IPPROTO_TCP, socket.TCP_NODELAY, 1)
+        receive(self.stream, 12)
+        self.stream.sendall(b"RFB 003.008\n")
+        receive(self.stream, receive(self.stream, 1)[0])
+        self.stream.sendall(b"\x01")
+        receive(self.stream, 4)
+        self.stream.sendall(b"\x01")
+        receive(self.stream, struct.unpack(">I", receive(self.stream, 24)[20:])[0])
+        self.stream.sendall(bytes(4) + FORMAT + struct.pack(">BxHi", 2, 1, 0))
+
+    def update(self, room=bytearray(1 << 20)):
+        """Reads up to the next update's end."""
+        kind = receive(self.stream, 1)[0]
+        if kind == 3:
+            receive(self.stream, struct.unpack(">3xI", receive(self.stream, 7))[0])
+        if kind in (2, 3):
+            return self.update()
+        for _ in range(struct.unpack(">xH", receive(self.stream, 3))[0]):
+            _, _, w, h, encoding = struct.unpack(">HHHHi", receive(self.stream, 12))
+            left = 4 * w * h
+            while left:
+                left -= self.stream.recv_into(room, min(left, len(room)))
+        return None
+
+    def begin(self):
+        self.stream.sendall(WHOLE)
+        self.update()
+        self.stream.sendall(CHANGES)
+
+
+def settle(viewers, seconds=1.0):
+    """Has viewers take what comes, and ask for more, for a while."""
+    selector = selectors.DefaultSelector()
+    for viewer in viewers:
+        selector.register(viewer.stream, selectors.EVENT_READ, viewer)
+    until = time.monotonic() + seconds
+    while time.monotonic() < until:
+        for key, _ in selector.select(max(0.0, until - time.monotonic())):
+            key.data.update()
+            key.data.stream.sendall(CHANGES)
+
+
+def first_update(viewers):
+    """When each of them had its next update."""
+    selector, came = selectors.DefaultSelector(), {}
+    for viewer in viewers:
+        selector.register(viewer.stream, selectors.EVENT_READ, viewer)
+    while len(came) < len(viewers):
+        for key, _ in selector.select(10) or [(None, None)]:
+            key.data.update()
+            came[key.data] = time.monotonic()
+            key.data.stream.sendall(CHANGES)
+            selector.unregister(key.data.stream)
+    return [came[viewer] for viewer in viewers]
+
+
+def lateness(server, mirror, dots=200):
+    direct, behind = Viewer(server.port), Viewer(mirror.port)
+    found = []
+    for viewer in (direct, behind):
+        viewer.begin()
+    settle([direct, behind])
+    for i in range(dots):
+        time.sleep(0.03)
+        server.draw(f"square {8 * (i % 200)} {8 * (i // 200)} 8 {1 + i * 7919 % 0xffffff}")
+        first, second = first_update([direct, behind])
+        found.append(1000 * (second - first))
+    return statistics.median(found), sorted(found)[dots * 95 // 100]
+
+
+def costs(server, port, count, pids, seconds):
+    """The processor time of these processes for a second of a square of 100 by 100 each 40 milliseconds, with so many viewers at a port."""
+    viewers = [Viewer(port) for _ in range(count)]
+    for viewer in viewers:
+        viewer.begin()
+    settle(viewers)
+    before = [spent(pid) for pid in pids]
+    began = time.monotonic()
+    i = 0
+    while time.monotonic() - began < seconds:
+        server.draw(f"square {8 * (i % 200)} 400 100 {1 + i * 7919 % 0xffffff}")
+        settle(viewers, 0.04)
+        i += 1
+    taken = time.monotonic() - began
+    found = [(spent(pid) - was) / taken for pid, was in zip(pids, before)]
+    for viewer in viewers:
+        viewer.stream.close()
+    time.sleep(0.5)
+    return found
+
+
+def rate(viewer, seconds, room=bytearray(16 + 4 * WIDTH * HEIGHT)):
+    """How many whole updates of one rectangle it takes in a second."""
+    count, began = 0, time.monotonic()
+    while time.monotonic() - began < seconds:
+        viewer.stream.sendall(WHOLE)
+        viewer.stream.recv_into(room, len(room), socket.MSG_WAITALL)
+        count += 1
+    return count / (time.monotonic() - began)
+
+
+def left_by_stuck(mirror, turns=8, seconds=0.5):
+    """Of the rates alone, and beside one that asked for much and reads nothing, those that a quarter are above: what else the machine does counts
+    for little then."""
+    viewer = Viewer(mirror.port)
+    viewer.stream.settimeout(None)
+    rate(viewer, seconds)
+    alone, beside = [], []
+    for _ in range(turns):
+        alone.append(rate(viewer, seconds))
+        stuck = Viewer(mirror.port)
+        stuck.stream.sendall(WHOLE * 50)
+        time.sleep(seconds)
+        beside.append(rate(viewer, seconds))
+        stuck.stream.close()
+        time.sleep(seconds / 2)
+    viewer.stream.close()
+    return sorted(beside)[turns * 3 // 4] / sorted(alone)[turns * 3 // 4]
+
+
+def main():
+    parser = argparse.ArgumentParser(description=__doc__)
+    parser.add_argument("program")
+    parser.add_argument("--seconds", type=float, default=5)
+    parser.add_argument("--viewers", type=int, default=32)
+    parser.add_argument("--only", default="")
+    options = parser.parse_args()
+    failed = False
+    with tempfile.TemporaryDirectory() as room:
+        draws = os.path.join(room, "x_draws")
+        subprocess.run([os.environ.get("CC", "cc"), "-O2", "-o", draws, os.path.join(HERE, "x_draws.c"), "-lX11"], check=True)
+        for kind in ("Xvnc", "x11vnc"):
+            if not re.search(options.only, kind):
+                continue
+            server = Server(kind, draws)
+            mirror = Mirror(options.program, f"127.0.0.1:{server.port}")
+            mirror.line("source came: ")
+            time.sleep(1)
+            median, most = lateness(server, mirror)
+            print(f"{kind}: a dot comes {median:.2f} ms later behind the mirror, 95 of 100 within {most:.2f} ms", flush=True)
+            pids = [server.server.pid, mirror.process.pid]
+            few = costs(server, mirror.port, 1, pids, options.seconds)
+            many = costs(server, mirror.port, options.viewers, pids, options.seconds)
+            alone = costs(server, server.port, options.viewers, pids[:1], options.seconds)[0]
+            print(f"{kind}, ms of the processor a second: {few[0]:.1f} and the mirror {few[1]:.1f} with 1 viewer behind it; "
+                  f"{many[0]:.1f} and {many[1]:.1f} with {options.viewers}; {alone:.1f} where it serves {options.viewers} itself", flush=True)
+            left = left_by_stuck(mirror)
+            print(f"{kind}: one that never reads leaves {left:.2f}", flush=True)
+            failed |= median >= 2 or many[0] > 1.2 * few[0] + 5 or sum(many) > alone or left < 0.95
+            server.end()
+            mirror.end()
+    return int(failed)
+
+
+if __name__ == "__main__":
+    sys.exit(main())
