@@ -1,5 +1,5 @@
 -- What is done with a browser's connection until it is a viewer's, or closed: what of its bytes is read, and what is written to it.
-use Rattle.std.specs.Prelude.{◌≡◌, ℕ, Bool, false, true, List, [], ◌++◌, length, ⊤, Option, Some, None}
+use Rattle.std.specs.Prelude.{◌≡◌, ℕ, Bool, false, true, List, ◌++◌, length, ⊤, Option}
 use Rattle.std.specs.declared.io.ErrorKind.{ErrorKind}
 use Rattle.std.specs.declared.io.ErrorKind.TheVariants as kinds
 use Rattle.std.specs.Io.KnownBytes.{Appends, Consumes, Keeps}

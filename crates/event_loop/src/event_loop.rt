@@ -47,7 +47,7 @@ const ACCEPTED: u32 = 32;
 /// For how many milliseconds an open viewer counts as active whose socket was found ready.
 const ACTIVE: u64 = 5;
 
-/// In how many milliseconds one who comes is seen to, while a viewer is active.
+/// In how many milliseconds one connection is accepted, while a viewer is active.
 const APART: u64 = 4;
 
 /// How many milliseconds ahead of that they may be who come at once: 64 of them.
@@ -600,18 +600,17 @@ impl EventLoop {
         }
     }
 
-    /// Returns how many connections are accepted and how many requests gone on with now, at most: one, which is counted, while a viewer is
-    /// active.
-    fn most_at(&mut self, now: Instant) -> (u32, usize)
+    /// Returns how many connections of each kind are accepted now, at most: one, which is counted, while a viewer is active.
+    fn most_at(&mut self, now: Instant) -> u32
         ensures same { self.new ≡ self.old }
     {
         if !self.is_active_at(now) {
-            return (ACCEPTED, WAITING);
+            return ACCEPTED;
         }
         let due = self.next_due.unwrap_or(now);
         let from = if now < due { due } else { now };
         self.next_due = from.checked_add(Duration::from_millis(APART));
-        (1, 1)
+        1
     }
 
     /// Returns how long a turn may wait.
@@ -621,7 +620,9 @@ impl EventLoop {
         }
         let until = |then: Instant| then.duration_since(now);
         let mut wait = shorter(timeout, self.viewers.newcomers.next_after(now));
-        wait = shorter(wait, self.has_come().then_some(self.pause(now)));
+        if self.has_come() {
+            wait = shorter(wait, Some(self.pause(now)));
+        }
         wait = shorter(wait, self.next_tick.map(until));
         wait = shorter(wait, self.entrance.next_after(now));
         shorter(
@@ -688,9 +689,9 @@ impl EventLoop {
         if !self.has_come() || self.pause(now) > Duration::ZERO {
             return Ok(());
         }
-        let (accepted, answered) = self.most_at(now);
-        self.accept_some(now, accepted, application)?;
-        self.answer_some(now, answered, application)
+        let most = self.most_at(now);
+        self.accept_some(now, most, application)?;
+        self.answer_some(now, application)
     }
 
     /// Returns how many milliseconds passed since the first turn.
@@ -810,17 +811,16 @@ impl EventLoop {
         self.entrance.next_stream(now)
     }
 
-    /// Goes on with requests of which more may have come, so many at most, and takes those in that are accepted.
+    /// Goes on with each request of which more may have come, and takes those in that are accepted.
     fn answer_some<A: Application>(
         &mut self,
         now: Instant,
-        most: usize,
         application: &mut A,
     ) -> Result<(), LoopError>
         ensures served { GoesOnServing self.old self.new }
         ensures stands { Stays A.stands application.old application.new }
     {
-        for _ in 0..most {
+        for _ in 0..WAITING {
             if !self.entrance.is_due() {
                 return Ok(());
             }
