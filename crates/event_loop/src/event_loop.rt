@@ -48,7 +48,7 @@ const ACCEPTED: u32 = 32;
 const ACTIVE: u64 = 5;
 
 /// In how many milliseconds one connection is accepted, while a viewer is active.
-const APART: u64 = 4;
+const APART: u64 = 1;
 
 /// How many milliseconds ahead of that they may be who come at once: 64 of them.
 const AHEAD: u64 = 64 * APART;
@@ -589,8 +589,8 @@ impl EventLoop {
         self.active.is_some_and(|then| now.duration_since(then) < Duration::from_millis(ACTIVE))
     }
 
-    /// Returns how long who comes is to wait. Nobody waits while no viewer is active. Else it is one in four milliseconds behind the first 64,
-    /// so that who comes takes little of an active viewer's time, however many they are.
+    /// Returns how long who comes is to wait. Nobody waits while no viewer is active. Else it is one in a millisecond behind the first 64, so that
+    /// who comes takes little of an active viewer's time, however many they are.
     fn pause(&self, now: Instant) -> Duration {
         match self.next_due {
             Some(due) if self.is_active_at(now) => due
