@@ -1,5 +1,5 @@
 #!/usr/bin/env python3
-"""web_hostile.py PROGRAM [--rounds 3] [--seconds 2]: what browsers that mean no good leave to others, at `vncdemo serve --one-thread --web`.
+"""web_hostile.py PROGRAM [--rounds 3] [--seconds 1.6]: what browsers that mean no good leave to others, at `vncdemo serve --one-thread --web`.
 
 One viewer over TCP asks for one whole update of 640 by 480 after another, alone, and then while browsers do their worst; a cell is the
 median of the rounds. The status is 1 where less than 0.95 is left to it, and of what comes without end 0.80."""
@@ -19,7 +19,7 @@ from browsers import KEY, RAW, Browser, Server, Viewer, changed, ends, frame, me
 WIDTH, HEIGHT = 640, 480
 WHOLE = struct.pack(">BBHHHH", 3, 0, 0, 0, WIDTH, HEIGHT)
 FLOOD, OTHER = 0.80, 0.95
-MOMENT = 0.2
+MOMENT, DRAINED = 0.4, 1.3
 
 
 def opened(web, count):
@@ -161,10 +161,10 @@ def share(program, attack, seconds):
     for _ in range(round(seconds / MOMENT)):
         attacked.append(rate(viewer, MOMENT))
         os.kill(attacker.pid, signal.SIGSTOP)
-        time.sleep(MOMENT / 5)
+        time.sleep(DRAINED)  # up to 1,024 connections wait to be accepted
         alone.append(rate(viewer, MOMENT))
         os.kill(attacker.pid, signal.SIGCONT)
-        time.sleep(MOMENT / 5)
+        time.sleep(MOMENT)
     fell = not attacker.is_alive()
     attacker.kill()
     attacker.join()
@@ -184,7 +184,7 @@ def main():
     words = argparse.ArgumentParser(description=__doc__)
     words.add_argument("program")
     words.add_argument("--rounds", type=int, default=3)
-    words.add_argument("--seconds", type=float, default=2)
+    words.add_argument("--seconds", type=float, default=1.6)
     words.add_argument("--only", default="", help="a part of what browsers do")
     chosen, failed = words.parse_args(), False
     print("| what browsers do | goal | left | alone a second |\n|---|---|---|---|")
