@@ -47,6 +47,9 @@ class Server:
 class Viewer:
     """A viewer over TCP."""
 
+    # how many bytes stand before a short update
+    HEAD = 0
+
     def __init__(self, port):
         self.stream = socket.create_connection(("127.0.0.1", port))
         self.stream.settimeout(10)
@@ -69,8 +72,11 @@ class Viewer:
         del self.held[:count]
         return taken
 
+    def spelled(self, data):
+        return data
+
     def send(self, data):
-        self.stream.sendall(data)
+        self.stream.sendall(self.spelled(data))
 
     def open(self):
         """RFC 6143, 7.1 to 7.3."""
@@ -118,6 +124,8 @@ def request(port, *lines, host=None, method="GET", version="1.1"):
 class Browser(Viewer):
     """The same over a WebSocket."""
 
+    HEAD = 2
+
     def __init__(self, port, behind=b""):
         super().__init__(port)
         self.raw, self.own = bytearray(), []
@@ -145,8 +153,8 @@ class Browser(Viewer):
         else:
             self.own.append((first & 15, data))
 
-    def send(self, data):
-        self.stream.sendall(frame(data))
+    def spelled(self, data):
+        return frame(data)
 
     def answer(self, data):
         """The first control frame that answers such bytes."""
@@ -372,6 +380,7 @@ def whole(server, viewer, times):
 
 
 def dots(server, viewers, times):
+    """All viewers take as long to take a dot and to ask for the next, so that the server is woken as often."""
     painter = Viewer(server.port)
     painter.open()
     for viewer in viewers:
@@ -380,12 +389,16 @@ def dots(server, viewers, times):
         viewer.ask(0, 64, 48)
         viewer.take(4 + 12 + 64 * 48 * 4)
         viewer.ask(1, 64, 48)
+    asks = [(viewer.stream, viewer.HEAD + 4 + 12 + 4, viewer.spelled(struct.pack(">BBHHHH", 3, 1, 0, 0, 64, 48))) for viewer in viewers]
+    for stream, _, _ in asks:
+        stream.settimeout(None)
     began = server.seconds()
     for number in range(times):
         painter.send(struct.pack(">BBHH", 5, 1, number % 64, number // 64 % 48) + struct.pack(">BBHH", 5, 0, 0, 0))
-        for viewer in viewers:
-            viewer.take(4 + 12 + 4)
-            viewer.ask(1, 64, 48)
+        for stream, size, ask in asks:
+            if len(stream.recv(size, socket.MSG_WAITALL)) < size:
+                raise EOFError
+            stream.sendall(ask)
     return (server.seconds() - began) / times
 
 

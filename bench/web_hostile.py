@@ -99,9 +99,9 @@ def broken(web):
 
 
 def mutated(web):
-    """Requests and frames with bytes changed, one connection after the other, cut anywhere."""
+    """Requests and frames with bytes changed, one connection after the other, cut anywhere. Those that stay right ask for one place."""
     chance = random.Random(1)
-    said = [request(web), *map(frame, (b"RFB 003.008\n", b"\x01", b"\x01", RAW, WHOLE))]
+    said = [request(web), *map(frame, (b"RFB 003.008\n", b"\x01", b"\x01", RAW, struct.pack(">BBHHHH", 3, 0, 0, 0, 1, 1)))]
     while True:
         ends(web, changed(b"".join(said), chance), chance)
 
