@@ -596,16 +596,19 @@ def mutated(program, first, count):
 
 
 def pass_over(stream, room=bytearray(1 << 20)):
-    """Reads an update of Raw, and forgets it."""
+    """Reads an update of Raw, and forgets it. Returns how many places it had."""
+    places = 0
     for _ in range(struct.unpack(">BxH", receive(stream, 4))[1]):
         _, _, w, h, _ = struct.unpack(">HHHHi", receive(stream, 12))
+        places += w * h
         left = 4 * w * h
         while left:
             left -= stream.recv_into(room, min(left, len(room)))
+    return places
 
 
 def pictures(program, encoding, seconds=5):
-    """How many whole pictures of 1920 by 1080 pass in a second, where each place changes."""
+    """How many whole pictures of 1920 by 1080 a source is rid of in a second, where each place changes, and how many reach a viewer."""
     width, height = 1920, 1080
     head = struct.pack(">BxHHHHHi", 0, 1, 0, 0, width, height, encoding)
     if encoding == RAW:
@@ -616,29 +619,31 @@ def pictures(program, encoding, seconds=5):
     mirror = Mirror(program, source.address, *(["--raw"] if encoding == RAW else []))
     source.accept()
     source.open(width, height)
+    sent = 0
 
     def serve():
-        i = 0
+        nonlocal sent
         while True:
             try:
                 source.expect("request")
-                source.send(bodies[i % 2])
+                source.send(bodies[sent % 2])
             except (Wrong, OSError, queue.Empty):
                 return
-            i += 1
+            sent += 1
 
     threading.Thread(target=serve, daemon=True).start()
     mirror.line("source came: ")
     viewer = Viewer(mirror.port)
-    count, began = 0, time.monotonic()
+    pass_over(viewer.stream)
+    places, first, began = 0, sent, time.monotonic()
     while time.monotonic() - began < seconds:
-        pass_over(viewer.stream)
-        count += 1
-        viewer.ask(0)
-    rate = count / (time.monotonic() - began)
+        viewer.ask(1)
+        places += pass_over(viewer.stream)
+    took = time.monotonic() - began
+    rates = (sent - first) / took, places / (width * height) / took
     source.close()
     mirror.end()
-    return rate
+    return rates
 
 
 def delays(program, count=300):
@@ -669,9 +674,10 @@ def delays(program, count=300):
 
 
 def cost(program):
-    print("| whole pictures of 1920 by 1080, each place changes | a second |\n|---|---|")
+    print("| whole pictures of 1920 by 1080 a second, each place changes | from the source | to a viewer |\n|---|---|---|")
     for encoding, name in ((RAW, "Raw"), (HEXTILE, "Hextile, a colour for each tile")):
-        print(f"| {name} | {pictures(program, encoding):.0f} |")
+        came, went = pictures(program, encoding)
+        print(f"| {name} | {came:.0f} | {went:.0f} |")
     median, most = delays(program)
     print(f"\na place comes {median:.2f} ms behind its source's write; 95 of 100 within {most:.2f} ms")
 

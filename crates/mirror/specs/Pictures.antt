@@ -7,7 +7,7 @@ use Rattle.screen.specs.State.{State, state}
 use Rattle.source_talk.specs.Requests.{format_message, encodings_message, listed_by, request_message}
 use Rattle.source_talk.specs.Outbox.{Waiting, put, has_room, most_waiting}
 use Rattle.server_reader.specs.declared.stage.Size.{Size}
-use Rattle.source_picture.specs.Mirroring.{begun, GoesOnMirroring}
+use Rattle.source_picture.specs.Mirroring.{begun, IsShare, GoesOnMirroring}
 use Rattle.source_picture.specs.declared.source.Request.{Request}
 use Rattle.source_picture.specs.declared.source.Request.TheVariants as request
 use Rattle.mirror.specs.declared.source.Stage.{Stage}
@@ -43,10 +43,11 @@ stage_asked (stage.Picture picture) waiting =
     then stage.Picture (record picture { asking = record picture.asking { request = request.None } }) else stage.Picture picture
 stage_asked s waiting = s
 
--- The bytes that came are drawn, all of them, in order and once: what the picture mirrored, it mirrors with these behind it.
-abbrev pub DrawsBytes : {X E : Type 0} → Stage → List ℕ → Stage → Result X E → (old new : State) → Type 0
-DrawsBytes (stage.Picture before) bytes (stage.Picture after) result old new =
-    (config : Config) (list : List Event) → config_refusal config ≡ None → old ≡ state config list
-    → OnOk result (GoesOnMirroring config list before bytes after [] old new)
-DrawsBytes (stage.Picture before) bytes _ result old new = OnOk result ⊥
-DrawsBytes _ bytes after result old new = Unit {0}
+-- The bytes that came are drawn, up to a share of work, in order and once: what the picture mirrored, it mirrors with these behind it. The others
+-- are left.
+abbrev pub DrawsBytes : {X E : Type 0} → Stage → List ℕ → Stage → (left : List ℕ) → Result X E → (old new : State) → Type 0
+DrawsBytes (stage.Picture before) bytes (stage.Picture after) left result old new =
+    OnOk result (IsShare before bytes after left)
+    × ((config : Config) (list : List Event) → config_refusal config ≡ None → old ≡ state config list → OnOk result (GoesOnMirroring config list before bytes after left old new))
+DrawsBytes (stage.Picture before) bytes _ left result old new = OnOk result ⊥
+DrawsBytes _ bytes after left result old new = Unit {0}

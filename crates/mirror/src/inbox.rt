@@ -1,6 +1,6 @@
 //! What came of a source and wasn't read.
 
-ghost use Rattle.std.specs.Prelude.{◌≡◌, ◌==◌, ◌≤◌, [], length, drop, IfOk, OnErr};
+ghost use Rattle.std.specs.Prelude.{◌≡◌, ◌==◌, ◌-◌, ◌≤◌, [], length, drop, IfOk, OnErr};
 ghost use Rattle.mirror.specs.Inbox.{IsFilled};
 
 use std::alloc::{AllocError, Global};
@@ -65,11 +65,12 @@ impl Inbox {
         self.start += count;
     }
 
-    /// Forgets all bytes.
-    pub fn clear(&mut self)
-        ensures { self.new ≡ [] }
+    /// Forgets all but the last bytes, which are to be read yet.
+    pub fn keep_last(&mut self, count: usize)
+        requires { count ≤ length self.old }
+        ensures { self.new ≡ drop (length self.old - count) self.old }
     {
-        self.start = self.end;
+        self.forget(self.bytes().len() - count);
     }
 
     /// Reads once in place of all bytes that are there. Returns how many came, of which there are none at the stream's end alone; after an error

@@ -332,23 +332,22 @@ impl<S: Read + Write + Drop> Source<S> {
         Ok(())
     }
 
-    /// Draws what came, all of it.
+    /// Draws what came, or a share of it.
     fn draw(&mut self, canvas: &mut Canvas) -> Result<(), SourceEnd>
-        ensures drawn { DrawsBytes self.old.stage self.old.inbox self.new.stage result canvas.old.screen canvas.new.screen }
-        ensures taken { is_shown self.old.stage ≡ true → OnOk result (self.new.inbox ≡ []) }
+        ensures drawn { DrawsBytes self.old.stage self.old.inbox self.new.stage self.new.inbox result canvas.old.screen canvas.new.screen }
         ensures shown { is_shown self.new.stage ≡ is_shown self.old.stage }
         ensures draws { Draws canvas.old canvas.new }
     {
         let Stage::Picture(picture) = &mut self.stage else {
             return Ok(());
         };
-        picture.draw(canvas, self.inbox.bytes())?;
-        self.inbox.clear();
+        let left = picture.draw(canvas, self.inbox.bytes())?.len();
+        self.inbox.keep_last(left);
         Ok(())
     }
 
-    /// Reads what it says of its picture, 256 KB at most, draws it, and asks for more behind whole updates. Returns whether there may be more
-    /// at once.
+    /// Reads what it says of its picture, 256 KB at most, draws it up to a share of work, and asks for more behind whole updates. Returns whether
+    /// there may be more at once.
     pub fn draw_some(&mut self, canvas: &mut Canvas) -> Result<bool, SourceEnd>
         ensures waits { result ≡ Ok false → self.new.inbox ≡ [] }
         ensures shown { is_shown self.new.stage ≡ is_shown self.old.stage }
@@ -360,6 +359,9 @@ impl<S: Read + Write + Drop> Source<S> {
             }
             self.draw(canvas)?;
             self.ask()?;
+            if !self.inbox.is_empty() {
+                return Ok(true);
+            }
         }
         Ok(true)
     }

@@ -28,6 +28,7 @@ use Rattle.screen.specs.Taken.{taken}
 use Rattle.screen.specs.Takes.{Takes}
 use Rattle.server_reader.specs.Steps.{rows_in}
 use Rattle.server_reader.specs.Pictures as reader
+use Rattle.source_picture.specs.Bands.{rows_of}
 use Rattle.source_picture.specs.Painting.{with_pixels, with_pixel, with_copy, IsPainted, HasSize, IsOnFrame}
 use Rattle.source_picture.proofs.ColourLemmas.{pixel_colour}
 use Rattle.source_picture.proofs.PaintLemmas.{taken_to, rect_of, copied}
@@ -62,13 +63,17 @@ no_layout w h bytes format enough = choose (w * 4) (4 * w) (length bytes) (bytes
     choose row stride len need a b = grind (arith, nat_tests)
 
 -- four bytes for each place are enough
-pub pixels_fit : (w h aw ah : ℕ) (bytes : List ℕ) (f : TrueColour) → w ≡ aw → h ≡ ah → f ≡ server_format → length bytes ≡ 4 * (aw * ah)
-    → source_refusal (record { width = w; height = h; stride = 4 * w; bytes = bytes; format = kind.TrueColour f }) ≡ None
-pixels_fit w h aw ah bytes f wide high is all =
-    let P : TrueColour → Type 0 = λ g. source_refusal (record { width = w; height = h; stride = 4 * w; bytes = bytes; format = kind.TrueColour g }) ≡ None in
-    let enough : 4 * (w * h) ≤ length bytes =
-    let a : 4 * (w * h) ≡ 4 * (aw * ah) = ap (λ n. 4 * (n * h)) wide ∙ ap (λ n. 4 * (aw * n)) high in omega (arith, a, all) in
-    subst P (sym is) (no_layout w h bytes (kind.TrueColour server_format) enough)
+pub pixels_fit : (a : Area) (bytes : List ℕ) (stride : ℕ) → stride ≡ 4 * a.w → length bytes ≡ 4 * (a.w * a.h) → source_refusal (rows_of a bytes stride) ≡ None
+pixels_fit a bytes stride is all =
+    let P : ℕ → Type 0 = λ n. source_refusal (rows_of a bytes n) ≡ None in
+    subst P (sym is) (no_layout a.w a.h bytes (kind.TrueColour server_format) (omega (arith, all)))
+
+-- a band's bytes are enough
+pub band_fits : (a : Area) (bytes : List ℕ) → a.w ≤ 2048 → a.h ≤ 16 → length bytes ≡ 131072 → source_refusal (rows_of a bytes 8192) ≡ None
+band_fits a bytes wide high long = choose (a.w * 4) (length bytes) (bytes_needed (a.w * 4) 8192 a.h) (omega (arith, wide)) (no_rows (a.h == 0) ((a.h - 1) * 8192 + a.w * 4) (length bytes) (λ e. omega (arith, wide, high, long)))
+  where
+    choose : (row len need : ℕ) → row ≤ 8192 → need ≤ len → cond (nat_lt 8192 row) (Some StrideTooShort) (cond (nat_lt len need) (Some TooFewBytes) None) ≡ None
+    choose row len need a b = grind (arith, nat_tests)
 
 pub accepted : (s : Source) (r : Result Source SourceError) → source_refusal s ≡ None → MatchOption (source_refusal s) (r ≡ Ok s) (λ e. r ≡ Err e) → r ≡ Ok s
 accepted s r none h = let P : Option SourceError → Type 0 = λ o. MatchOption o (r ≡ Ok s) (λ e. r ≡ Err e) in subst P none h
@@ -87,22 +92,38 @@ pub taken_ok : (s : Source) (left top : ℕ) (c : Config) (list : List Event) (o
 taken_ok s left top c list old new r places h is = let P : Result ℕ ScreenError → Type 0 = λ o. Takes s left top c list old new o in (subst P is h).picture
 
 -- a source at a place
+pub taken_is : (a : Area) (given s : Source) (left top : ℕ) (old new : Frame) → given ≡ s → left ≡ a.x → top ≡ a.y → new ≡ taken given left top old → new ≡ taken s a.x a.y old
+taken_is a given s left top old new is across down new_is = new_is ∙ ap (λ q. taken q left top old) is ∙ ap (λ n. taken s n top old) across ∙ ap (λ n. taken s a.x n old) down
+
 pub taken_at : (a : Area) (given s : Source) (left top : ℕ) (old new : Frame) (change : reader.Picture → reader.Picture) → given ≡ s → left ≡ a.x → top ≡ a.y → new ≡ taken given left top old
     → IsPainted change old (taken s a.x a.y old) → IsPainted change old new
 taken_at a given s left top old new change is across down new_is painted =
     let P : Frame → Type 0 = λ f. IsPainted change old f in
-    subst P (sym (new_is ∙ ap (λ q. taken q left top old) is ∙ ap (λ n. taken s n top old) across ∙ ap (λ n. taken s a.x n old) down)) painted
+    subst P (sym (taken_is a given s left top old new is across down new_is)) painted
 
-pub pixels_painted : (a : Area) (bytes : List ℕ) (w h : ℕ) (f : TrueColour) (old : Frame) → w ≡ a.w → h ≡ a.h → f ≡ server_format
-    → IsPainted (with_pixels a bytes) old (taken (record { width = w; height = h; stride = 4 * w; bytes = bytes; format = kind.TrueColour f }) a.x a.y old)
-pixels_painted a bytes w h f old wide high is =
-    let P : TrueColour → Type 0 = λ g. IsPainted (with_pixels a bytes) old (taken (record { width = w; height = h; stride = 4 * w; bytes = bytes; format = kind.TrueColour g }) a.x a.y old) in
-    subst P (sym is)
-    (taken_to (record { width = w; height = h; stride = 4 * w; bytes = bytes; format = kind.TrueColour server_format }) a (λ x y. reader.colour_of (rows_in a.w bytes x y)) old wide high
-    (λ x y left top. ap (λ k. colour_of (kind.TrueColour server_format) (take 4 (drop k bytes))) (place w a.w x y wide) ∙ pixel_colour bytes (4 * (y * a.w + x))))
+-- pixels by the numbers that are passed
+pub rows_are : (a : Area) (bytes : List ℕ) (stride w h : ℕ) (f : TrueColour) → w ≡ a.w → h ≡ a.h → f ≡ server_format
+    → record { width = w; height = h; stride = stride; bytes = bytes; format = kind.TrueColour f } ≡ rows_of a bytes stride
+rows_are a bytes stride w h f wide high is =
+    let by_width : ℕ → Source = λ n. record { width = n; height = h; stride = stride; bytes = bytes; format = kind.TrueColour f } in
+    let by_height : ℕ → Source = λ n. record { width = a.w; height = n; stride = stride; bytes = bytes; format = kind.TrueColour f } in
+    let by_format : TrueColour → Source = λ g. record { width = a.w; height = a.h; stride = stride; bytes = bytes; format = kind.TrueColour g } in
+    ap by_width wide ∙ ap by_height high ∙ ap by_format is
+
+pub pixels_painted : (a : Area) (bytes : List ℕ) (stride : ℕ) (old new : Frame) → stride ≡ 4 * a.w → new ≡ taken (rows_of a bytes stride) a.x a.y old → IsPainted (with_pixels a bytes) old new
+pixels_painted a bytes stride old new is taken_so =
+    let P : Frame → Type 0 = λ f. IsPainted (with_pixels a bytes) old f in
+    subst P (sym taken_so)
+    (taken_to (rows_of a bytes stride) a (λ x y. reader.colour_of (rows_in a.w bytes x y)) old refl refl
+    (λ x y left top. ap (λ k. colour_of (kind.TrueColour server_format) (take 4 (drop k bytes))) (place x y) ∙ pixel_colour bytes (4 * (y * a.w + x))))
   where
-    place : (w aw x y : ℕ) → w ≡ aw → y * (4 * w) + x * 4 ≡ 4 * (y * aw + x)
-    place w aw x y e = (let same : y * (4 * w) + x * 4 ≡ 4 * (y * w + x) = omega arith in same) ∙ ap (λ n. 4 * (y * n + x)) e
+    place : (x y : ℕ) → y * stride + x * 4 ≡ 4 * (y * a.w + x)
+    place x y = ap (λ n. y * n + x * 4) is ∙ omega arith
+
+-- what follows of a step that was done
+pub ok_then : {X E A B : Type 0} (r : Result X E) → (A → B) → OnOk r A → OnOk r B
+ok_then (Ok x) then it = then it
+ok_then (Err e) then it = tt
 
 first_of : (bytes : List ℕ) → slice_index (take 1 bytes) 0 ≡ slice_index bytes 0
 first_of [] = refl

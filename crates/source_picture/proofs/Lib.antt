@@ -1,5 +1,7 @@
 pub mod ColourLemmas
+pub mod BandLemmas
 pub mod PaintLemmas
+pub mod WaitLemmas
 pub mod MirrorLemmas
 pub mod ReadLemmas
 pub mod LawLemmas

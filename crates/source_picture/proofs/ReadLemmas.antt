@@ -1,5 +1,5 @@
 -- What is read of a piece, step by step.
-use Rattle.std.proofs.Common.{◌≡◌, ℕ, inl, inr, List, [], ◌∷◌, refl, sym, subst, ap, ◌∙◌}
+use Rattle.std.proofs.Common.{◌≡◌, ℕ, inl, inr, List, [], ◌∷◌, ◌++◌, append_assoc, refl, sym, subst, ap, ◌∙◌}
 use Rattle.std.specs.Prelude.{Result, Ok, Err, IfErr}
 use Rattle.std.specs.Result.{IsErrAnd}
 use Rattle.encode_raw.specs.Reading.{Shown}
@@ -13,6 +13,9 @@ use Rattle.server_reader.specs.StandingLemmas.{goes_on_itself, goes_on_through, 
 use Rattle.screen.specs.Frame.{Frame}
 use Rattle.source_picture.specs.declared.source.DrawEnd.{DrawEnd}
 use Rattle.source_picture.specs.declared.source.DrawEnd.TheVariants as end
+use Rattle.source_picture.specs.declared.asking.Asking.{Asking}
+use Rattle.source_picture.specs.Bands.{BandView}
+use Rattle.source_picture.specs.Texts.{TextView}
 use Rattle.source_picture.specs.Painting.{IsDone, LiesOn}
 use Rattle.source_picture.specs.Mirroring.{SourceView, shown_behind, colours_behind, asked_behind, text_behind, IsReadAs, IsRead, IsNext, Mirrors, IsMirrored, IsMirroredNext, GivesNoReading, HasEnded}
 use Rattle.source_picture.proofs.MirrorLemmas.{AgreesAt, step_agrees}
@@ -20,6 +23,12 @@ use Rattle.source_picture.proofs.MirrorLemmas.{AgreesAt, step_agrees}
 -- where a reader is, with so many bytes left of a piece
 abbrev standing : View → Shown → ColourMap → List ℕ → Standing
 standing view shown colours left = record { view = view; shown = shown; colours = colours; left = left }
+
+-- ---- pieces
+
+-- what was read of a piece, with what is read of its rest
+pub further : (piece front left more end rest : List ℕ) → piece ≡ front ++ left → left ≡ more ++ end → end ≡ rest → piece ≡ (front ++ more) ++ rest
+further piece front left more end rest one two is = one ∙ ap (λ l. front ++ l) (two ∙ ap (λ l. more ++ l) is) ∙ sym (append_assoc front more rest)
 
 -- ---- steps
 
@@ -93,6 +102,28 @@ mirrored_more a b c piece left rest old now new one others = record {
   read = is_read_more a b c piece left rest one.next others.steps one.read one.left others.read;
   mirrors = λ shown m. others.mirrors (shown_after one.next.step shown) (one.mirrors shown m);
 }
+
+-- ---- what waits
+
+abbrev pub view : View → Asking → TextView → BandView → SourceView
+view reader asking text waiting = record { reader = reader; asking = asking; text = text; waiting = waiting }
+
+-- whatever waits, and by an equal text
+read_around : (r q : View) (s k : Asking) (t t' u u' : TextView) (v v' w w' : BandView) (piece rest : List ℕ) (steps : List Step) → t' ≡ t → u' ≡ u
+    → IsReadAs (view r s t v) piece steps (view q k u w) rest → IsReadAs (view r s t' v') piece steps (view q k u' w') rest
+read_around r q s k t t' u u' v v' w w' piece rest steps before after it = record {
+  read = it.read;
+  goes = it.goes;
+  asked = it.asked;
+  text = after ∙ it.text ∙ ap (text_behind steps) (sym before);
+}
+
+pub mirrored_around : (r q : View) (s k : Asking) (t t' u u' : TextView) (v v' w w' : BandView) (piece rest : List ℕ) (old old' new new' : Frame) → t' ≡ t → u' ≡ u → old' ≡ old → new' ≡ new
+    → IsMirrored (view r s t v) piece (view q k u w) rest old new → IsMirrored (view r s t' v') piece (view q k u' w') rest old' new'
+mirrored_around r q s k t t' u u' v v' w w' piece rest old old' new new' before after from to it =
+    let P : Frame → Type 0 = λ f. IsMirrored (view r s t' v') piece (view q k u' w') rest f new' in
+    let Q : Frame → Type 0 = λ f. IsMirrored (view r s t' v') piece (view q k u' w') rest old f in
+    subst P (sym from) (subst Q (sym to) (record { steps = it.steps; read = read_around r q s k t t' u u' v v' w w' piece rest it.steps before after it.read; mirrors = it.mirrors }))
 
 -- ---- ends
 

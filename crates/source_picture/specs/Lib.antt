@@ -1,4 +1,5 @@
 pub mod Painting
+pub mod Bands
 pub mod Texts
 pub mod Asking
 pub mod Mirroring

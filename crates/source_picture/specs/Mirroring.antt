@@ -1,8 +1,9 @@
 -- What a picture shows is what its source said.
-use Rattle.std.specs.Prelude.{◌≡◌, ℕ, ◌≤◌, ◌<◌, ◌⊎◌, Bool, true, false, not, ◌||◌, List, [], ◌∷◌, ◌++◌, length, Option, None, Some}
+use Rattle.std.specs.Prelude.{◌≡◌, ℕ, ◌+◌, ◌*◌, ◌≤◌, ◌<◌, ◌⊎◌, Bool, true, false, not, ◌||◌, List, [], ◌∷◌, ◌++◌, length, Option, None, Some}
 use Rattle.encode_raw.specs.Reading.{Shown}
 use Rattle.viewer_picture.specs.Messages.{ColourMap, nothing_shown, nothing_mapped, messages_at}
 use Rattle.server_reader.specs.declared.step.Step.{Step}
+use Rattle.server_reader.specs.declared.step.Step.TheVariants as step
 use Rattle.server_reader.specs.declared.step.Next.{Next}
 use Rattle.server_reader.specs.declared.stage.Size.{Size}
 use Rattle.server_reader.specs.OnPicture.{ends_update}
@@ -18,19 +19,22 @@ use Rattle.screen.specs.State.{State, state}
 use Rattle.screen.specs.Taken.{colour_on}
 use Rattle.source_picture.specs.declared.source.DrawEnd.{DrawEnd}
 use Rattle.source_picture.specs.declared.source.DrawEnd.TheVariants as end
+use Rattle.source_picture.specs.declared.source.Drawn.{Drawn}
 use Rattle.source_picture.specs.declared.asking.Asking.{Asking}
+use Rattle.source_picture.specs.Bands.{BandView, no_band}
 use Rattle.source_picture.specs.Asking.{first_asking, asked_after}
 use Rattle.source_picture.specs.Texts.{TextView, text_after}
 
--- where a source's reader stands, what is asked of it, and its text
+-- where a source's reader stands, what is asked of it, its text, and the pixels that wait to be taken into the picture
 pub record SourceView : Type 0 where
   pub reader : View
   pub asking : Asking
   pub text : TextView
+  pub waiting : BandView
 
 -- 7.3.2: behind a ServerInit that told this size
 abbrev pub begun : (width height : ℕ) → SourceView
-begun width height = record { reader = opened width height; asking = first_asking; text = record { kept = []; left = 0 } }
+begun width height = record { reader = opened width height; asking = first_asking; text = record { kept = []; left = 0 }; waiting = no_band }
 
 -- its first update hasn't come whole, or a message is in the middle
 abbrev pub is_owing : SourceView → Bool
@@ -84,6 +88,33 @@ pub record IsReadAs (before : SourceView) (piece : List ℕ) (steps : List Step)
 abbrev pub IsRead : (before : SourceView) (piece : List ℕ) (after : SourceView) (rest : List ℕ) → Type 0
 IsRead before piece after rest = (steps : List Step) × IsReadAs before piece steps after rest
 
+-- how much work a step is: as many places as it draws, and 64 more
+abbrev pub cost_of : Step → ℕ
+cost_of (step.Pixels a bytes) = a.w * a.h + 64
+cost_of (step.Fill a pixel) = a.w * a.h + 64
+cost_of (step.Copy a x y) = a.w * a.h + 64
+cost_of _ = 64
+
+abbrev pub costs_of : List Step → ℕ
+costs_of [] = 0
+costs_of (done ∷ steps) = cost_of done + costs_of steps
+
+-- how much of a piece is read at least, where all of it is more
+abbrev pub share : ℕ
+share = 65536
+
+-- steps that are at least so much work
+abbrev pub IsReadFor : (work : ℕ) (before : SourceView) (piece : List ℕ) (after : SourceView) (rest : List ℕ) → Type 0
+IsReadFor work before piece after rest = (steps : List Step) × IsReadAs before piece steps after rest × (work ≤ costs_of steps)
+
+-- The front of a piece was read, and its end is left: nothing, or what stands behind a share of work.
+pub record IsShare (before : SourceView) (piece : List ℕ) (after : SourceView) (rest : List ℕ) : Type 0 where
+  pub front : List ℕ
+  pub end : piece ≡ front ++ rest
+  pub steps : List Step
+  pub read : IsReadAs before piece steps after rest
+  pub enough : 0 < length rest → share ≤ costs_of steps
+
 -- one step of it
 pub record IsNext (before : SourceView) (piece : List ℕ) (next : Next) (after : SourceView) : Type 0 where
   pub read : IsStep before.reader piece next after.reader
@@ -113,13 +144,13 @@ pub record IsMirroredNext (before : SourceView) (piece : List ℕ) (after : Sour
   pub mirrors : (shown : Shown) → Mirrors before.reader shown old → Mirrors after.reader (shown_after next.step shown) new
 
 -- a step, or none where more is needed
-abbrev pub ReadsNext : (before : SourceView) (piece : List ℕ) (after : SourceView) → Option (List ℕ) → Type 0
+abbrev pub ReadsNext : (before : SourceView) (piece : List ℕ) (after : SourceView) → Option Drawn → Type 0
 ReadsNext before piece after None = IsReadAs before piece [] after []
-ReadsNext before piece after (Some rest) = (next : Next) × IsNext before piece next after × (next.rest.now ≡ rest)
+ReadsNext before piece after (Some drawn) = (next : Next) × IsNext before piece next after × (next.rest.now ≡ drawn.rest.now) × (drawn.cost ≡ cost_of next.step)
 
-abbrev pub MirrorsNext : (before : SourceView) (piece : List ℕ) (after : SourceView) (old new : Frame) → Option (List ℕ) → Type 0
+abbrev pub MirrorsNext : (before : SourceView) (piece : List ℕ) (after : SourceView) (old new : Frame) → Option Drawn → Type 0
 MirrorsNext before piece after old new None = IsMirrored before piece after [] old new
-MirrorsNext before piece after old new (Some rest) = IsMirroredNext before piece after rest old new
+MirrorsNext before piece after old new (Some drawn) = IsMirroredNext before piece after drawn.rest.now old new
 
 -- a screen stands for a list of events with more behind it
 abbrev pub StandsOn : Config → List Event → State → Type 0

@@ -1,11 +1,12 @@
 -- What a step of a source does to a picture.
-use Rattle.std.specs.Prelude.{◌≡◌, ℕ, ◌-◌, ◌+◌, ◌<◌, ◌≤◌, ◌⊎◌, false, if◌then◌else◌, List}
+use Rattle.std.specs.Prelude.{◌≡◌, ℕ, ◌-◌, ◌+◌, ◌*◌, ◌<◌, ◌≤◌, ◌⊎◌, false, if◌then◌else◌, List}
 use Rattle.pixel_translate.specs.declared.Area.{Area}
 use Rattle.encode_raw.specs.Reading.{is_inside}
 use Rattle.server_reader.specs.declared.step.Step.{Step}
 use Rattle.server_reader.specs.declared.step.Step.TheVariants as step
 use Rattle.server_reader.specs.declared.stage.Size.{Size}
 use Rattle.server_reader.specs.OnPicture.{StepIsOn}
+use Rattle.server_reader.specs.Groups.{pixel_in}
 use Rattle.server_reader.specs.Steps.{rows_in}
 use Rattle.server_reader.specs.Pictures.{Picture, colour_of, drawn}
 use Rattle.screen.specs.declared.ScreenError.{ScreenError}
@@ -21,6 +22,10 @@ coloured a colour picture x y = if is_inside a x y then colour (x - a.x) (y - a.
 -- 7.7.1: an area has pixels
 abbrev pub with_pixels : Area → (bytes : List ℕ) → Picture → Picture
 with_pixels a bytes = coloured a (λ x y. colour_of (rows_in a.w bytes x y))
+
+-- an area has pixels whose rows begin a stride of bytes behind the one above
+abbrev pub with_rows : Area → (bytes : List ℕ) (stride : ℕ) → Picture → Picture
+with_rows a bytes stride = coloured a (λ x y. colour_of (pixel_in bytes (stride * y + 4 * x)))
 
 -- an area has one pixel
 abbrev pub with_pixel : Area → (pixel : ℕ) → Picture → Picture

@@ -14,6 +14,7 @@
 #![tactic(auto)]
 
 mod asking;
+mod band;
 mod laws;
 mod painter;
 mod source;

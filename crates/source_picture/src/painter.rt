@@ -8,9 +8,13 @@ ghost use Rattle.screen.specs.State.{state};
 ghost use Rattle.connections.specs.Drawing.{Draws};
 ghost use Rattle.server_reader.specs.declared.stage.Size.{Size};
 ghost use Rattle.server_reader.specs.OnPicture.{StepIsOn, size_after};
-ghost use Rattle.source_picture.specs.Painting.{with_pixels, with_pixel, with_copy, IsPainted, HasSize, IsDone, LiesOn, IsOnFrame, IsRefusedFor};
+ghost use Rattle.source_pixels.specs.Source.{source_refusal};
+ghost use Rattle.screen.specs.Taken.{taken};
+ghost use Rattle.source_picture.specs.Bands.{no_band, IsSmall, GoesOnWith, rows_of, with_band};
+ghost use Rattle.source_picture.specs.Painting.{with_pixels, with_rows, with_pixel, with_copy, IsPainted, HasSize, IsDone, LiesOn, IsOnFrame, IsRefusedFor};
 ghost use Rattle.source_picture.specs.Texts.{with_bytes, text_after};
 
+use crate::band::{Band, STRIDE};
 use crate::text::Text;
 use connections::{Canvas, ScreenError};
 use server_reader::{Area, Step};
@@ -20,8 +24,8 @@ use std::alloc::Global;
 /// How many places are filled at once: two rows of the widest picture.
 const PLACES: usize = 16_384;
 
-/// How many places a small fill has: those of a tile of Hextile (RFC 6143, 7.7.4).
-const FEW_PLACES: usize = 256;
+/// How many columns and rows an area has at most that waits for those beside it: those of a tile of Hextile (RFC 6143, 7.7.4).
+const TILE: u16 = 16;
 
 /// How many columns and rows a picture has at most.
 const LONGEST_SIDE: u16 = 8192;
@@ -29,8 +33,34 @@ const LONGEST_SIDE: u16 = 8192;
 /// How many bytes a pixel of a source has.
 const PIXEL: usize = 4;
 
-/// Takes pixels of an area into the picture, four bytes each, the lowest first, as `Canvas::take` does. Refused as `BadPixelCount` where
-/// there are fewer than places, and as `OutOfMemory`, behind which some of them may be in the picture.
+/// Takes pixels of an area into the picture, four bytes each, the lowest first, as `Canvas::take` does; their rows begin a stride of bytes
+/// behind the one above. Refused as `BadPixelCount` where there are fewer than places, and as `OutOfMemory`, behind which some of them may
+/// be in the picture.
+fn take_rows(
+    canvas: &mut Canvas,
+    alloc: Global,
+    area: Area,
+    bytes: &[u8],
+    stride: usize,
+) -> Result<(), ScreenError>
+    ensures taken { (config : Config) (list : List Event) → config_refusal config ≡ None → canvas.old.screen ≡ state config list →
+        OnOk result (canvas.new.screen.picture ≡ taken (rows_of area bytes.now stride) area.x area.y canvas.old.screen.picture) }
+    ensures refused { source_refusal (rows_of area bytes.now stride) ≡ None → IsOkUnless result ScreenError.OutOfMemory }
+    ensures draws { Draws canvas.old canvas.new }
+{
+    let (width, height) = (usize::from(area.w), usize::from(area.h));
+    let format = SourceFormat::TrueColour(TrueColour::server());
+    let Ok(source) = PixelSource::new(bytes, stride, width, height, format) else {
+        return Err(ScreenError::BadPixelCount);
+    };
+    match canvas.take(alloc, u32::from(area.x), u32::from(area.y), &source) {
+        Ok(_) => Ok(()),
+        // memory is all that it is refused for
+        Err(_) => Err(ScreenError::OutOfMemory),
+    }
+}
+
+/// Takes pixels of an area into the picture, row by row without a gap. Refused as `take_rows` is.
 fn draw_pixels(
     canvas: &mut Canvas,
     alloc: Global,
@@ -42,16 +72,7 @@ fn draw_pixels(
     ensures refused { length bytes.now ≡ 4 * (area.w * area.h) → IsOkUnless result ScreenError.OutOfMemory }
     ensures draws { Draws canvas.old canvas.new }
 {
-    let (width, height) = (usize::from(area.w), usize::from(area.h));
-    let format = SourceFormat::TrueColour(TrueColour::server());
-    let Ok(source) = PixelSource::new(bytes, PIXEL * width, width, height, format) else {
-        return Err(ScreenError::BadPixelCount);
-    };
-    match canvas.take(alloc, u32::from(area.x), u32::from(area.y), &source) {
-        Ok(_) => Ok(()),
-        // memory is all that it is refused for
-        Err(_) => Err(ScreenError::OutOfMemory),
-    }
+    take_rows(canvas, alloc, area, bytes, PIXEL * usize::from(area.w))
 }
 
 /// Fills an area with the first pixel of a table. `zeros` are at least as many as its places: each is a place of the table.
@@ -79,18 +100,6 @@ fn fill_places(
         // memory is all that it is refused for
         Err(_) => Err(ScreenError::OutOfMemory),
     }
-}
-
-/// Fills an area of at most 256 places with one pixel.
-fn fill_few(canvas: &mut Canvas, alloc: Global, area: Area, pixel: u32) -> Result<(), ScreenError>
-    requires { area.w * area.h ≤ 256 }
-    ensures painted { (config : Config) (list : List Event) → config_refusal config ≡ None → canvas.old.screen ≡ state config list →
-        OnOk result (IsPainted (with_pixel area pixel) canvas.old.screen.picture canvas.new.screen.picture) }
-    ensures refused { IsOkUnless result ScreenError.OutOfMemory }
-    ensures draws { Draws canvas.old canvas.new }
-{
-    let zeros = [0u8; FEW_PLACES];
-    fill_places(canvas, alloc, area, &[pixel], &zeros)
 }
 
 /// Returns how many rows of so many columns are filled at once.
@@ -144,13 +153,130 @@ fn fill(canvas: &mut Canvas, alloc: Global, area: Area, pixel: u32) -> Result<()
     ensures refused { area.w ≤ 8192 → area.y + area.h ≤ 8192 → IsOkUnless result ScreenError.OutOfMemory }
     ensures draws { Draws canvas.old canvas.new }
 {
-    if usize::from(area.w) * usize::from(area.h) <= FEW_PLACES {
-        return fill_few(canvas, alloc, area, pixel);
-    }
     if !is_fillable(area) {
         return Err(ScreenError::BadRect);
     }
     fill_rows(canvas, alloc, area, pixel)
+}
+
+/// Takes the pixels that wait into the picture. Nothing waits behind it.
+fn take_band(canvas: &mut Canvas, alloc: Global, band: &mut Band) -> Result<(), ScreenError>
+    ensures taken { (config : Config) (list : List Event) → config_refusal config ≡ None → canvas.old.screen ≡ state config list →
+        OnOk result (canvas.new.screen.picture ≡ with_band band.old canvas.old.screen.picture) }
+    ensures none { band.new.area.w ≡ 0 }
+    ensures refused { IsOkUnless result ScreenError.OutOfMemory }
+    ensures draws { Draws canvas.old canvas.new }
+{
+    let area = band.area();
+    if area.w == 0 {
+        return Ok(());
+    }
+    band.clear();
+    take_rows(canvas, alloc, area, band.bytes(), STRIDE)
+}
+
+/// Has the band be one that takes an area: what waits in another is taken into the picture first.
+fn make_way(
+    canvas: &mut Canvas,
+    alloc: Global,
+    band: &mut Band,
+    area: Area,
+) -> Result<(), ScreenError>
+    requires { IsSmall area }
+    ensures same { (config : Config) (list : List Event) → config_refusal config ≡ None → canvas.old.screen ≡ state config list →
+        OnOk result (with_band band.new canvas.new.screen.picture ≡ with_band band.old canvas.old.screen.picture) }
+    ensures goes_on { OnOk result (GoesOnWith band.new.area area) }
+    ensures room { OnOk result (length band.new.bytes ≡ 131072) }
+    ensures wide { OnOk result (band.new.area.w ≤ 2048) }
+    ensures refused { IsOkUnless result ScreenError.OutOfMemory }
+    ensures draws { Draws canvas.old canvas.new }
+{
+    if band.takes(area) {
+        return Ok(());
+    }
+    take_band(canvas, alloc, band)?;
+    band.begin(area)?;
+    Ok(())
+}
+
+/// Has an area's pixels wait, whose rows begin a stride of bytes behind the one above.
+fn put_off(
+    canvas: &mut Canvas,
+    alloc: Global,
+    band: &mut Band,
+    area: Area,
+    rows: &[u8],
+    stride: usize,
+) -> Result<(), ScreenError>
+    requires small { IsSmall area }
+    requires enough { (y : ℕ) → y < area.h → stride * y + 4 * area.w ≤ length rows.now }
+    requires few { stride ≤ 64 }
+    ensures painted { (config : Config) (list : List Event) → config_refusal config ≡ None → canvas.old.screen ≡ state config list →
+        OnOk result (IsPainted (with_rows area rows.now stride) (with_band band.old canvas.old.screen.picture) (with_band band.new canvas.new.screen.picture)) }
+    ensures refused { IsOkUnless result ScreenError.OutOfMemory }
+    ensures draws { Draws canvas.old canvas.new }
+{
+    make_way(canvas, alloc, band, area)?;
+    band.put(area, rows, stride);
+    Ok(())
+}
+
+/// Returns whether an area is no larger than a tile.
+fn is_small(area: Area) -> bool
+    ensures { result ≡ true → IsSmall area }
+{
+    area.w <= TILE && area.h <= TILE
+}
+
+/// Returns whether pixels are those of an area no larger than a tile.
+fn are_few(area: Area, bytes: &[u8]) -> bool
+    ensures small { result ≡ true → IsSmall area }
+    ensures long { result ≡ true → length bytes.now ≡ 4 * (area.w * area.h) }
+{
+    is_small(area) && bytes.len() == PIXEL * (usize::from(area.w) * usize::from(area.h))
+}
+
+/// Has the pixels of a small area wait, row by row without a gap.
+fn put_off_pixels(
+    canvas: &mut Canvas,
+    alloc: Global,
+    band: &mut Band,
+    area: Area,
+    bytes: &[u8],
+) -> Result<(), ScreenError>
+    requires small { IsSmall area }
+    requires long { length bytes.now ≡ 4 * (area.w * area.h) }
+    ensures painted { (config : Config) (list : List Event) → config_refusal config ≡ None → canvas.old.screen ≡ state config list →
+        OnOk result (IsPainted (with_pixels area bytes.now) (with_band band.old canvas.old.screen.picture) (with_band band.new canvas.new.screen.picture)) }
+    ensures refused { IsOkUnless result ScreenError.OutOfMemory }
+    ensures draws { Draws canvas.old canvas.new }
+{
+    put_off(
+        canvas,
+        alloc,
+        band,
+        area,
+        bytes,
+        PIXEL * usize::from(area.w),
+    )
+}
+
+/// Has a small area of one pixel wait.
+fn put_off_fill(
+    canvas: &mut Canvas,
+    alloc: Global,
+    band: &mut Band,
+    area: Area,
+    pixel: u32,
+) -> Result<(), ScreenError>
+    requires { IsSmall area }
+    ensures painted { (config : Config) (list : List Event) → config_refusal config ≡ None → canvas.old.screen ≡ state config list →
+        OnOk result (IsPainted (with_pixel area pixel) (with_band band.old canvas.old.screen.picture) (with_band band.new canvas.new.screen.picture)) }
+    ensures refused { IsOkUnless result ScreenError.OutOfMemory }
+    ensures draws { Draws canvas.old canvas.new }
+{
+    let row = [pixel.to_le_bytes(); TILE as usize];
+    put_off(canvas, alloc, band, area, row.as_flattened(), 0)
 }
 
 /// Copies the area of an area's size at (`x`, `y`) to it, all at once, as a scroll is (RFC 6143, 7.7.2): viewers that list CopyRect are sent
@@ -188,20 +314,24 @@ fn ring(canvas: &mut Canvas) -> Result<(), ScreenError>
     canvas.bell()
 }
 
-/// Draws what a source says, step by step. Of its texts it keeps 65,536 bytes at most.
+/// Draws what a source says, step by step: small areas wait until others come that they aren't taken together with. Of its texts it keeps
+/// 65,536 bytes at most.
 #[derive(Drop)]
 pub(crate) struct Painter {
     alloc: Global,
+    band: Band,
     text: Text,
 }
 
 impl Painter {
     /// Returns a painter, who drew nothing yet.
     pub fn new(alloc: Global) -> Painter
-        ensures { result.text ≡ record { kept = []; left = 0 } }
+        ensures text { result.text ≡ record { kept = []; left = 0 } }
+        ensures band { result.band ≡ no_band }
     {
         Painter {
             alloc,
+            band: Band::new(alloc),
             text: Text::new(alloc),
         }
     }
@@ -225,6 +355,7 @@ impl Painter {
         ensures same { (config : Config) (list : List Event) → canvas.old.screen ≡ state config list →
             OnOk result (canvas.new.screen.picture ≡ canvas.old.screen.picture) }
         ensures text { self.new.text ≡ record { kept = []; left = length } }
+        ensures band { self.new.band ≡ self.old.band }
         ensures refused { IsOkUnless result ScreenError.OutOfMemory }
         ensures draws { Draws canvas.old canvas.new }
     {
@@ -237,6 +368,7 @@ impl Painter {
         ensures same { (config : Config) (list : List Event) → canvas.old.screen ≡ state config list →
             OnOk result (canvas.new.screen.picture ≡ canvas.old.screen.picture) }
         ensures text { OnOk result (self.new.text ≡ with_bytes bytes.now self.old.text) }
+        ensures band { self.new.band ≡ self.old.band }
         ensures refused { IsOkUnless result ScreenError.OutOfMemory }
         ensures draws { Draws canvas.old canvas.new }
     {
@@ -244,13 +376,32 @@ impl Painter {
         self.tell_text(canvas)
     }
 
-    /// Does a step of the source to the picture. Refused as `BadSize` or `BadRect` where the picture would have a size beyond a screen's
-    /// limits, as `BadPixelCount` where there are fewer pixels than places, and as `OutOfMemory`, behind which a part of the step may be
-    /// done.
-    pub fn draw(&mut self, canvas: &mut Canvas, step: Step<'_>) -> Result<(), ScreenError>
+    /// Has nothing wait: what waited is not drawn.
+    pub fn begin(&mut self)
+        ensures none { self.new.band.area.w ≡ 0 }
+        ensures text { self.new.text ≡ self.old.text }
+    {
+        self.band.clear();
+    }
+
+    /// Draws what waits.
+    pub fn end(&mut self, canvas: &mut Canvas) -> Result<(), ScreenError>
+        ensures taken { (config : Config) (list : List Event) → config_refusal config ≡ None → canvas.old.screen ≡ state config list →
+            OnOk result (canvas.new.screen.picture ≡ with_band self.old.band canvas.old.screen.picture) }
+        ensures none { self.new.band.area.w ≡ 0 }
+        ensures text { self.new.text ≡ self.old.text }
+        ensures refused { IsOkUnless result ScreenError.OutOfMemory }
+        ensures draws { Draws canvas.old canvas.new }
+    {
+        take_band(canvas, self.alloc, &mut self.band)
+    }
+
+    /// Does a step to the picture at once, where nothing waits. Refused as `draw` is.
+    fn draw_now(&mut self, canvas: &mut Canvas, step: Step<'_>) -> Result<(), ScreenError>
         ensures done { (config : Config) (list : List Event) → config_refusal config ≡ None → canvas.old.screen ≡ state config list →
             LiesOn step.entry canvas.old.screen.picture → OnOk result (IsDone step.entry canvas.old.screen.picture canvas.new.screen.picture) }
         ensures text { OnOk result (self.new.text ≡ text_after step.entry self.old.text) }
+        ensures band { self.new.band ≡ self.old.band }
         ensures refused { (size : Size) → StepIsOn size step.entry → IfErr result (λ why. IsRefusedFor (size_after step.entry size) why) }
         ensures draws { Draws canvas.old canvas.new }
     {
@@ -263,6 +414,42 @@ impl Painter {
             Step::TextBegins { length } => self.begin_text(canvas, length),
             Step::Text(bytes) => self.add_text(canvas, bytes),
             Step::Head | Step::UpdateEnd | Step::MapEntry { .. } => Ok(()),
+        }
+    }
+
+    /// Draws what waits, and then a step. Refused as `draw` is.
+    fn draw_behind(&mut self, canvas: &mut Canvas, step: Step<'_>) -> Result<(), ScreenError>
+        ensures done { (config : Config) (list : List Event) → config_refusal config ≡ None → canvas.old.screen ≡ state config list →
+            LiesOn step.entry (with_band self.old.band canvas.old.screen.picture) →
+            OnOk result (IsDone step.entry (with_band self.old.band canvas.old.screen.picture) (with_band self.new.band canvas.new.screen.picture)) }
+        ensures text { OnOk result (self.new.text ≡ text_after step.entry self.old.text) }
+        ensures refused { (size : Size) → StepIsOn size step.entry → IfErr result (λ why. IsRefusedFor (size_after step.entry size) why) }
+        ensures draws { Draws canvas.old canvas.new }
+    {
+        self.end(canvas)?;
+        self.draw_now(canvas, step)
+    }
+
+    /// Does a step of the source to the picture, or has it wait. Refused as `BadSize` or `BadRect` where the picture would have a size beyond a
+    /// screen's limits, as `BadPixelCount` where there are fewer pixels than places, and as `OutOfMemory`, behind which a part of the step
+    /// and of those that waited may be done.
+    pub fn draw(&mut self, canvas: &mut Canvas, step: Step<'_>) -> Result<(), ScreenError>
+        ensures done { (config : Config) (list : List Event) → config_refusal config ≡ None → canvas.old.screen ≡ state config list →
+            LiesOn step.entry (with_band self.old.band canvas.old.screen.picture) →
+            OnOk result (IsDone step.entry (with_band self.old.band canvas.old.screen.picture) (with_band self.new.band canvas.new.screen.picture)) }
+        ensures text { OnOk result (self.new.text ≡ text_after step.entry self.old.text) }
+        ensures refused { (size : Size) → StepIsOn size step.entry → IfErr result (λ why. IsRefusedFor (size_after step.entry size) why) }
+        ensures draws { Draws canvas.old canvas.new }
+    {
+        match step {
+            Step::Head | Step::UpdateEnd | Step::MapEntry { .. } => Ok(()),
+            Step::Pixels { area, bytes } if are_few(area, bytes) => {
+                put_off_pixels(canvas, self.alloc, &mut self.band, area, bytes)
+            }
+            Step::Fill { area, pixel } if is_small(area) => {
+                put_off_fill(canvas, self.alloc, &mut self.band, area, pixel)
+            }
+            _ => self.draw_behind(canvas, step),
         }
     }
 }

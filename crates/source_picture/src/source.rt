@@ -7,14 +7,18 @@ ghost use Rattle.screen.specs.Alone.{config_refusal, is_size};
 ghost use Rattle.screen.specs.State.{state};
 ghost use Rattle.connections.specs.Drawing.{Draws};
 ghost use Rattle.server_reader.specs.Steps.{work_left};
-ghost use Rattle.source_picture.specs.Mirroring.{SourceView, begun, is_owing, IsRead, ReadsNext, MirrorsNext, GoesOnMirroring, HasEnded};
+ghost use Rattle.source_picture.specs.Mirroring.{SourceView, begun, is_owing, cost_of, IsShare, ReadsNext, MirrorsNext, IsMirrored, GoesOnMirroring, HasEnded};
+ghost use Rattle.source_picture.specs.Bands.{with_band};
 
 use crate::asking::Asking;
 use crate::painter::Painter;
 use connections::{Canvas, ScreenError};
-use server_reader::{ReadFault, Reader};
+use server_reader::{ReadFault, Reader, Step};
 use std::alloc::Global;
 use std::marker::Model;
+
+/// How much work is done of a piece before what else there is to do has its turn.
+const SHARE: u32 = 65_536;
 
 /// What is to be requested of a source (RFC 6143, 7.5.3).
 #[derive(Clone, Copy, PartialEq, Eq)]
@@ -49,6 +53,26 @@ fn end_of(refused: ScreenError) -> DrawEnd
     }
 }
 
+/// What is left of a piece behind a step, and how much work the step was.
+#[derive(Clone, Copy)]
+struct Drawn<'a> {
+    rest: &'a [u8],
+    cost: u32,
+}
+
+/// Returns how much work a step is: as many places as it draws, and 64 more.
+fn cost_of(step: Step<'_>) -> u32
+    ensures { result ≡ cost_of step.entry }
+{
+    let places = match step {
+        Step::Pixels { area, .. } | Step::Fill { area, .. } | Step::Copy { area, .. } => {
+            u32::from(area.w) * u32::from(area.h)
+        }
+        _ => 0,
+    };
+    places + 64
+}
+
 /// A source's picture as it comes: what of its bytes isn't a step yet, what is asked of it, and its text.
 #[derive(Drop)]
 pub struct SourcePicture {
@@ -62,7 +86,7 @@ impl Model for SourcePicture {
 
     ghost Value = { SourceView };
 
-    ghost view = { λ a. record { reader = a.reader; asking = a.asking; text = a.painter.text } };
+    ghost view = { λ a. record { reader = a.reader; asking = a.asking; text = a.painter.text; waiting = a.painter.band } };
 }
 
 impl SourcePicture {
@@ -106,17 +130,19 @@ impl SourcePicture {
         self.asking.ask();
     }
 
-    /// Reads what comes next of a piece, and draws it. Returns what is left of the piece; `None` where nothing is. Ends as `draw` does.
+    /// Reads what comes next of a piece, and draws it, or has it wait. Returns what is left of the piece, and how much work that was; `None`
+    /// where nothing is left. Ends as `draw` does.
     fn draw_next<'a>(
         &mut self,
         canvas: &mut Canvas,
         piece: &'a [u8],
-    ) -> Result<Option<&'a [u8]>, DrawEnd>
+    ) -> Result<Option<Drawn<'a>>, DrawEnd>
         ensures mirrored { (config : Config) (list : List Event) → config_refusal config ≡ None → canvas.old.screen ≡ state config list →
-            IfOk result (λ left. MirrorsNext self.old piece.now self.new canvas.old.screen.picture canvas.new.screen.picture (option_map (λ rest. rest.now) left)) }
-        ensures read { IfOk result (λ left. ReadsNext self.old piece.now self.new (option_map (λ rest. rest.now) left)) }
+            IfOk result (λ drawn. MirrorsNext self.old piece.now self.new
+            (with_band self.old.waiting canvas.old.screen.picture) (with_band self.new.waiting canvas.new.screen.picture) drawn) }
+        ensures read { IfOk result (λ drawn. ReadsNext self.old piece.now self.new drawn) }
         ensures ended { IfErr result (λ end. HasEnded end self.old.reader piece.now self.new.reader) }
-        ensures less { IfOk result (λ left. IfSome left (λ rest. work_left self.new.reader rest.now < work_left self.old.reader piece.now)) }
+        ensures less { IfOk result (λ drawn. IfSome drawn (λ d. work_left self.new.reader d.rest.now < work_left self.old.reader piece.now)) }
         ensures draws { Draws canvas.old canvas.new }
     {
         let next = match self.reader.next(piece) {
@@ -128,23 +154,50 @@ impl SourcePicture {
             return Err(end_of(refused));
         }
         self.asking.note(&next.step);
-        Ok(Some(next.rest))
+        Ok(Some(Drawn {
+            rest: next.rest,
+            cost: cost_of(next.step),
+        }))
     }
 
-    /// Draws what a piece of the source's bytes says; the pieces may be of any length. Ends as `Fault` where no message goes on with it, as
-    /// `Size` where the picture would have a size beyond a screen's limits, and as `Memory`: then no more is to be drawn of the source,
-    /// and a part of the piece may be on the canvas.
-    pub fn draw(&mut self, canvas: &mut Canvas, piece: &[u8]) -> Result<(), DrawEnd>
+    /// Reads and draws a share of a piece, some of which may wait behind it. Returns what is left of the piece. Ends as `draw` does.
+    fn draw_share<'a>(&mut self, canvas: &mut Canvas, piece: &'a [u8]) -> Result<&'a [u8], DrawEnd>
         ensures mirrored { (config : Config) (list : List Event) → config_refusal config ≡ None → canvas.old.screen ≡ state config list →
-            OnOk result (GoesOnMirroring config list self.old piece.now self.new [] canvas.old.screen canvas.new.screen) }
-        ensures read { OnOk result (IsRead self.old piece.now self.new []) }
+            IfOk result (λ rest. IsMirrored self.old piece.now self.new rest.now
+            (with_band self.old.waiting canvas.old.screen.picture) (with_band self.new.waiting canvas.new.screen.picture)) }
+        ensures read { IfOk result (λ rest. IsShare self.old piece.now self.new rest.now) }
         ensures ended { IfErr result (λ end. HasEnded end self.old.reader piece.now self.new.reader) }
         ensures draws { Draws canvas.old canvas.new }
     {
         let mut left = piece;
-        'steps: while let Some(rest) = self.draw_next(canvas, left)? {
-            left = rest;
+        let mut share = SHARE;
+        // behind the last byte an update may end
+        'steps: while share > 0 || left.is_empty() {
+            let Some(drawn) = self.draw_next(canvas, left)? else {
+                return Ok(&[]);
+            };
+            left = drawn.rest;
+            share = share.saturating_sub(drawn.cost);
         }
-        Ok(())
+        Ok(left)
+    }
+
+    /// Draws what a piece of the source's bytes says; the pieces may be of any length. Returns what is left of it for the next call: nothing, or
+    /// the rest behind a share of work, 65,536 places or as many as its last step has, and each step counts for 64 more. Ends as
+    /// `Fault` where no message goes on with the piece, as `Size` where the picture would have a size beyond a screen's limits, and as
+    /// `Memory`: then no more is to be drawn of the source, and a part of the piece may be on the canvas.
+    pub fn draw<'a>(&mut self, canvas: &mut Canvas, piece: &'a [u8]) -> Result<&'a [u8], DrawEnd>
+        ensures mirrored { (config : Config) (list : List Event) → config_refusal config ≡ None → canvas.old.screen ≡ state config list →
+            IfOk result (λ rest. GoesOnMirroring config list self.old piece.now self.new rest.now canvas.old.screen canvas.new.screen) }
+        ensures read { IfOk result (λ rest. IsShare self.old piece.now self.new rest.now) }
+        ensures ended { IfErr result (λ end. HasEnded end self.old.reader piece.now self.new.reader) }
+        ensures draws { Draws canvas.old canvas.new }
+    {
+        self.painter.begin();
+        let left = self.draw_share(canvas, piece)?;
+        if let Err(refused) = self.painter.end(canvas) {
+            return Err(end_of(refused));
+        }
+        Ok(left)
     }
 }

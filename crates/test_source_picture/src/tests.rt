@@ -29,7 +29,7 @@ struct Said {
     request: Request,
 }
 
-static SAID: [Said; 6] = [
+static SAID: [Said; 8] = [
     // 7.7.1: Raw; the last pixel's top byte says nothing
     Said {
         size: (6, 3),
@@ -56,6 +56,20 @@ static SAID: [Said; 6] = [
         size: (18, 1),
         bytes: b"\0\0\0\x01\0\0\0\0\0\x12\0\x01\0\0\0\x05\x0eA\0\0\0B\0\0\0\x01\x20\x20\x08\x01\x10\0",
         drawn: b"AABBBAAAAAAAAAAAAB",
+        request: Request::Changes,
+    },
+    // 7.7.4: four tiles of a background each, two of them of one row
+    Said {
+        size: (18, 17),
+        bytes: b"\0\0\0\x01\0\0\0\0\0\x12\0\x11\0\0\0\x05\x02A\0\0\0\x02B\0\0\0\x02C\0\0\0\x02D\0\0\0",
+        drawn: b"AAAAAAAAAAAAAAAABBAAAAAAAAAAAAAAAABBAAAAAAAAAAAAAAAABBAAAAAAAAAAAAAAAABBAAAAAAAAAAAAAAAABBAAAAAAAAAAAAAAAABBAAAAAAAAAAAAAAAABBAAAAAAAAAAAAAAAABBAAAAAAAAAAAAAAAABBAAAAAAAAAAAAAAAABBAAAAAAAAAAAAAAAABBAAAAAAAAAAAAAAAABBAAAAAAAAAAAAAAAABBAAAAAAAAAAAAAAAABBAAAAAAAAAAAAAAAABBAAAAAAAAAAAAAAAABBCCCCCCCCCCCCCCCCDD",
+        request: Request::Changes,
+    },
+    // small areas apart, one above the other, over one another, and a copy of them
+    Said {
+        size: (6, 3),
+        bytes: b"\0\0\0\x05\0\0\0\0\0\x02\0\x01\0\0\0\0A\0\0\0B\0\0\0\0\x03\0\0\0\x01\0\x01\0\0\0\0C\0\0\0\0\0\0\x01\0\x02\0\x01\0\0\0\0D\0\0\0E\0\0\0\0\x01\0\x01\0\x01\0\x01\0\0\0\0F\0\0\0\0\x02\0\x01\0\x02\0\x02\0\0\0\x01\0\0\0\0",
+        drawn: b"AB.C..DFAB....DF..",
         request: Request::Changes,
     },
     // 7.8.2: a new size, of which nothing came
@@ -100,17 +114,18 @@ fn letters(alloc: Global, screen: &Screen) -> Result<Vec<u8>, AllocError> {
     Ok(text)
 }
 
-/// Draws bytes in pieces of `length`.
+/// Draws bytes in pieces of `length`. Returns whether nothing was left of them.
 fn draw_all(
     picture: &mut SourcePicture,
     canvas: &mut Canvas,
     bytes: &[u8],
     length: usize,
-) -> Result<(), DrawEnd> {
+) -> Result<bool, DrawEnd> {
+    let mut left = 0usize;
     for piece in bytes.chunks(length.max(1)) {
-        picture.draw(canvas, piece)?;
+        left = left.saturating_add(picture.draw(canvas, piece)?.len());
     }
-    Ok(())
+    Ok(left == 0)
 }
 
 /// Returns whether what is said is drawn, and what is requested.
@@ -123,7 +138,7 @@ fn is_drawn(
     let mut picture = SourcePicture::new(alloc, said.size.0, said.size.1);
     let is_new = picture.request() == Request::All && picture.is_owing();
     picture.asked();
-    let is_whole = draw_all(&mut picture, canvas, said.bytes, length).is_ok();
+    let is_whole = matches!(draw_all(&mut picture, canvas, said.bytes, length), Ok(true));
     let text = letters(alloc, canvas.screen())?;
     Ok(is_new && is_whole && text.as_slice() == said.drawn && picture.request() == said.request)
 }
@@ -147,11 +162,13 @@ fn what_is_said_is_drawn_however_it_is_cut(rt: HostRuntime) -> Result<(), Fail> 
     Ok(())
 }
 
-/// Returns how bytes of a picture of 2 columns and 1 row end: `f` for a fault, `s` for a size, `m` for memory, `-` for no end.
+/// Returns how bytes of a picture of 2 columns and 1 row end: `f` for a fault, `s` for a size, `m` for memory, `-` for no end, and
+/// `+` where some of them are left.
 fn end_on(alloc: Global, canvas: &mut Canvas, bytes: &[u8]) -> u8 {
     let mut picture = SourcePicture::new(alloc, 2, 1);
     match picture.draw(canvas, bytes) {
-        Ok(()) => b'-',
+        Ok(rest) if rest.is_empty() => b'-',
+        Ok(_) => b'+',
         Err(DrawEnd::Fault(_)) => b'f',
         Err(DrawEnd::Size) => b's',
         Err(DrawEnd::Memory) => b'm',
@@ -175,5 +192,49 @@ fn a_source_ends_by_what_it_says(rt: HostRuntime) -> Result<(), Fail> {
             b"\0\0\0\x01\0\0\0\0\x20\x01\0\x01\xff\xff\xff\x21"
         )? == b's'
     );
+    Ok(())
+}
+
+/// A source of 256 columns and rows fills all of them, three times in one update (RFC 6143, 7.7.3).
+static FILLS: &[u8] =
+    b"\0\0\0\x03\0\0\0\0\x01\0\x01\0\0\0\0\x02\0\0\0\0A\0\0\0\0\0\0\0\x01\0\x01\0\0\0\0\x02\0\0\0\0B\0\0\0\0\0\0\0\x01\0\x01\0\0\0\0\x02\0\0\0\0C\0\0\0";
+
+/// Draws a share of bytes. Returns the rest, and the first place's letter.
+fn share<'a>(
+    picture: &mut SourcePicture,
+    canvas: &mut Canvas,
+    bytes: &'a [u8],
+) -> Result<(&'a [u8], u32), DrawEnd> {
+    let rest = picture.draw(canvas, bytes)?;
+    Ok((rest, canvas.screen().colour(0, 0).unwrap_or(0)))
+}
+
+/// Returns how many bytes are left behind each of three shares, with the letters, and whether changes are requested behind the third.
+fn shares(alloc: Global, canvas: &mut Canvas) -> Result<([(usize, u32); 3], bool), DrawEnd> {
+    let mut picture = SourcePicture::new(alloc, 256, 256);
+    picture.asked();
+    let (rest, first) = share(&mut picture, canvas, FILLS)?;
+    let (end, second) = share(&mut picture, canvas, rest)?;
+    let is_early = picture.request() != Request::None;
+    let (none, third) = share(&mut picture, canvas, end)?;
+    let found = [
+        (rest.len(), first),
+        (end.len(), second),
+        (none.len(), third),
+    ];
+    Ok((found, !is_early && picture.request() == Request::Changes))
+}
+
+#[test]
+fn a_large_piece_is_drawn_in_shares(rt: HostRuntime) -> Result<(), Fail> {
+    let alloc = rt.alloc();
+    let mut connections: Connections<Nobody> = Connections::new(alloc, config(alloc, (256, 256))?)?;
+    match shares(alloc, connections.canvas()) {
+        Ok((found, is_requested)) => {
+            assert!(rt; found == [(40, 65), (20, 66), (0, 67)]);
+            assert!(rt; is_requested);
+        }
+        Err(_) => assert!(rt; false, "a fill ended"),
+    }
     Ok(())
 }
