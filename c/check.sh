@@ -104,7 +104,7 @@ for name in vnc_screen vnc_server; do try "$name.h declares what the library exp
 library_of() { grep -qE 'vnc_server.h|rfb_compat.h' "$1" && echo vnc_server || echo vnc_screen; }
 sources_of() { # SOURCE: with what is compiled with it
     echo "$1"
-    if grep -q rfb_compat.h "$1"; then echo "-I$here $here/rfb_compat.c $here/rfb_compat_draw.c"; fi
+    if grep -q rfb_compat.h "$1"; then echo "-I$here" "$here"/rfb_compat*.c; fi
 }
 compile() { # SOURCE OUT FLAGS..
     local source=$1 out=$2

@@ -1,0 +1,295 @@
+/* rfb_compat_listen.c: where a screen of rfb_compat.h listens, and the one
+ * descriptor to wait on for all.
+ *
+ * The layer accepts by itself, so that the program may have a connection wait
+ * of which nothing is read, before the server has it. An epoll holds what there
+ * is to wait for:
+ *
+ *   the server's descriptor   its viewers, and its waker
+ *   the listener              unless accepting rests, or there is no room
+ *   the timer                 while accepting rests
+ *   connections on hold       for their end alone
+ */
+#define _POSIX_C_SOURCE 200809L
+#include "rfb_compat_listen.h"
+#include <errno.h>
+#include <fcntl.h>
+#include <sys/epoll.h>
+#include <sys/timerfd.h>
+#include <time.h>
+
+enum {
+    /* Where autoPort looks for a port. */
+    FIRST_PORT = 5900,
+    LAST_PORT = 5999,
+    /* How many connections wait to be accepted, about. */
+    BACKLOG = 1024,
+    /* In microseconds: while somebody is served one is accepted in such a
+     * time, behind so many ahead of it, as by the library's own loop. */
+    APART = 1000,
+    AHEAD = 64 * APART,
+    /* So long it rests where the system has no room for a connection. */
+    NO_ROOM = 100000
+};
+
+void rfbDoorInit(struct rfbDoor *door)
+{
+    memset(door, 0, sizeof *door);
+    door->all = door->listener = door->clock = -1;
+}
+
+/* ---- where it listens ---- */
+
+/* Whether one socket of IPv6 takes connections of both versions. */
+static int takes_both(void)
+{
+    int fd = socket(AF_INET6, SOCK_STREAM, 0);
+    int isAlone = 1;
+    socklen_t size = sizeof isAlone;
+    if (fd < 0) return 0;
+    if (getsockopt(fd, IPPROTO_IPV6, IPV6_V6ONLY, &isAlone, &size)) isAlone = 1;
+    close(fd);
+    return !isAlone;
+}
+
+/* A socket that listens at an address: -1 where it can't, and errno says why
+ * not. */
+static int listener_at(const struct sockaddr *at, socklen_t size)
+{
+    const int yes = 1;
+    const int fd =
+        socket(at->sa_family, SOCK_STREAM | SOCK_CLOEXEC | SOCK_NONBLOCK, 0);
+    int error;
+    if (fd < 0) return -1;
+    if (setsockopt(fd, SOL_SOCKET, SO_REUSEADDR, &yes, sizeof yes) == 0 &&
+        bind(fd, at, size) == 0 && listen(fd, BACKLOG) == 0)
+        return fd;
+    error = errno;
+    close(fd);
+    errno = error;
+    return -1;
+}
+
+/* The same at a port of all of the machine's addresses, by both versions. */
+static int listener_of_both(int port)
+{
+    struct sockaddr_in6 at;
+    memset(&at, 0, sizeof at);
+    at.sin6_family = AF_INET6;
+    at.sin6_addr = in6addr_any;
+    at.sin6_port = htons((uint16_t)port);
+    return listener_at((const struct sockaddr *)&at, sizeof at);
+}
+
+/* The same at a port of an address of IPv4. */
+static int listener_of_ipv4(in_addr_t address, int port)
+{
+    struct sockaddr_in at;
+    memset(&at, 0, sizeof at);
+    at.sin_family = AF_INET;
+    at.sin_addr.s_addr = address;
+    at.sin_port = htons((uint16_t)port);
+    return listener_at((const struct sockaddr *)&at, sizeof at);
+}
+
+/* Listens at a port, by both versions where that is wanted and can be had. */
+static void listen_by(struct rfbDoor *door, rfbScreenInfoPtr s, int port,
+                      int isBoth)
+{
+    door->listener = isBoth ? listener_of_both(port) : -1;
+    door->isBoth = door->listener >= 0 ? TRUE : FALSE;
+    if (door->listener < 0)
+        door->listener = listener_of_ipv4(s->listenInterface, port);
+}
+
+rfbBool rfbDoorListen(struct rfbDoor *door, rfbScreenInfoPtr s)
+{
+    const int isBoth = s->listenInterface == htonl(INADDR_ANY) &&
+                       s->ipv6port > 0 && takes_both();
+    const int last = s->autoPort ? LAST_PORT : s->port;
+    int port = s->autoPort ? FIRST_PORT : s->port;
+    char address[INET_ADDRSTRLEN] = "";
+    if (s->port < 1 || s->port > 65535) {
+        rfbErr("nobody is served: there is no port %d\n", s->port);
+        return FALSE;
+    }
+    listen_by(door, s, port, isBoth);
+    while (door->listener < 0 && port < last)
+        listen_by(door, s, ++port, isBoth);
+    if (door->listener >= 0) {
+        s->port = port;
+        return TRUE;
+    }
+    inet_ntop(AF_INET, &s->listenInterface, address, sizeof address);
+    rfbErr("nobody is served on port %d of %s: %s\n", port, address,
+           strerror(errno));
+    return FALSE;
+}
+
+/* ---- what there is to wait for ---- */
+
+/* Has the epoll wait for something of a descriptor: 0, or -1. */
+static int set(int epoll, int how, int fd, uint32_t events)
+{
+    struct epoll_event event;
+    memset(&event, 0, sizeof event);
+    event.events = events;
+    event.data.fd = fd;
+    return epoll_ctl(epoll, how, fd, &event);
+}
+
+/* Listens for who comes, unless nobody is to. */
+static void hear(struct rfbDoor *door)
+{
+    uint32_t events = 0;
+    if (!door->isResting && !door->isFull) events = EPOLLIN;
+    if (door->listener >= 0)
+        set(door->all, EPOLL_CTL_MOD, door->listener, events);
+}
+
+rfbBool rfbDoorOpen(struct rfbDoor *door, int server)
+{
+    if (door->all < 0) {
+        door->all = epoll_create1(EPOLL_CLOEXEC);
+        door->clock =
+            timerfd_create(CLOCK_MONOTONIC, TFD_NONBLOCK | TFD_CLOEXEC);
+        if (door->all < 0 || door->clock < 0 ||
+            set(door->all, EPOLL_CTL_ADD, server, EPOLLIN) < 0 ||
+            set(door->all, EPOLL_CTL_ADD, door->clock, EPOLLIN) < 0)
+            return FALSE;
+    }
+    if (set(door->all, EPOLL_CTL_ADD, door->listener, 0) < 0) return FALSE;
+    hear(door);
+    return TRUE;
+}
+
+static void shut(int *fd)
+{
+    if (*fd >= 0) close(*fd);
+    *fd = -1;
+}
+
+void rfbDoorShut(struct rfbDoor *door)
+{
+    shut(&door->listener);
+}
+
+void rfbDoorClose(struct rfbDoor *door)
+{
+    shut(&door->listener);
+    shut(&door->clock);
+    shut(&door->all);
+    rfbDoorInit(door);
+}
+
+void rfbDoorFill(struct rfbDoor *door, rfbBool isFull)
+{
+    if (!door->isFull == !isFull) return;
+    door->isFull = isFull;
+    hear(door);
+}
+
+/* ---- who comes ---- */
+
+static int64_t microseconds(void)
+{
+    struct timespec now = {0, 0};
+    clock_gettime(CLOCK_MONOTONIC, &now);
+    return (int64_t)now.tv_sec * 1000000 + now.tv_nsec / 1000;
+}
+
+/* Has nobody accepted for a while, of less than a second. */
+static void rest(struct rfbDoor *door, int64_t time)
+{
+    struct itimerspec until;
+    memset(&until, 0, sizeof until);
+    until.it_value.tv_nsec = (long)time * 1000;
+    timerfd_settime(door->clock, 0, &until, NULL);
+    door->isResting = TRUE;
+    hear(door);
+}
+
+/* Whether accepting rests; it does no more once the timer says so. */
+static int rests(struct rfbDoor *door)
+{
+    uint64_t count;
+    if (!door->isResting) return 0;
+    if (read(door->clock, &count, sizeof count) < 0) return 1;
+    door->isResting = FALSE;
+    hear(door);
+    return 0;
+}
+
+/* A connection's descriptor, which waits for nothing, and is no child's: -1
+ * where there is none. */
+static int accepted(struct rfbDoor *door, struct sockaddr_storage *from)
+{
+    socklen_t size = sizeof *from;
+    int fd;
+    memset(from, 0, sizeof *from);
+    fd = accept(door->listener, (struct sockaddr *)from, &size);
+    if (fd < 0 && (errno == EMFILE || errno == ENFILE || errno == ENOBUFS ||
+                   errno == ENOMEM))
+        rest(door, NO_ROOM);
+    if (fd >= 0) {
+        fcntl(fd, F_SETFD, FD_CLOEXEC);
+        fcntl(fd, F_SETFL, O_NONBLOCK);
+    }
+    return fd;
+}
+
+int rfbDoorNext(struct rfbDoor *door, rfbBool isBusy,
+                struct sockaddr_storage *from)
+{
+    const int64_t now = microseconds();
+    const int64_t pause = isBusy ? door->due - now - AHEAD : 0;
+    int fd;
+    if (door->listener < 0 || rests(door)) return -1;
+    if (pause > 0) {
+        rest(door, pause);
+        return -1;
+    }
+    fd = accepted(door, from);
+    if (fd >= 0 && isBusy)
+        door->due = (door->due > now ? door->due : now) + APART;
+    return fd;
+}
+
+/* ---- who waits ---- */
+
+void rfbDoorWatch(struct rfbDoor *door, int connection)
+{
+    set(door->all, EPOLL_CTL_ADD, connection, EPOLLRDHUP);
+}
+
+void rfbDoorForget(struct rfbDoor *door, int connection)
+{
+    if (door->all >= 0 && connection >= 0)
+        set(door->all, EPOLL_CTL_DEL, connection, 0);
+}
+
+int rfbDoorEnded(struct rfbDoor *door)
+{
+    struct epoll_event found[4]; /* three of them may be no connections */
+    const int count = epoll_wait(door->all, found, 4, 0);
+    for (int k = 0; k < count; k++)
+        if (found[k].events & (EPOLLRDHUP | EPOLLHUP | EPOLLERR)) {
+            rfbDoorForget(door, found[k].data.fd);
+            return found[k].data.fd;
+        }
+    return -1;
+}
+
+int rfbLookoutNew(int connection)
+{
+    int lookout = epoll_create1(EPOLL_CLOEXEC);
+    if (lookout >= 0 &&
+        set(lookout, EPOLL_CTL_ADD, connection, EPOLLIN | EPOLLOUT) < 0)
+        shut(&lookout);
+    return lookout;
+}
+
+void rfbLookoutRest(int lookout, int connection)
+{
+    if (lookout >= 0) set(lookout, EPOLL_CTL_MOD, connection, EPOLLIN);
+}

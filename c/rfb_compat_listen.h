@@ -1,0 +1,65 @@
+/* rfb_compat_listen.h: what rfb_compat.c has of rfb_compat_listen.c: where a
+ * screen listens, and what it waits for. Programs include rfb_compat.h alone.
+ */
+#ifndef RFB_COMPAT_LISTEN_H
+#define RFB_COMPAT_LISTEN_H
+
+#include "rfb_compat.h"
+
+#ifdef __cplusplus
+extern "C" {
+#endif
+
+/* Where connections come in. A descriptor that isn't there is -1. */
+struct rfbDoor {
+    int all;         /* an epoll: it can be read where something is to be done */
+    int listener;    /* the socket that listens */
+    int clock;       /* a timer, which ends a rest */
+    rfbBool isBoth;  /* both versions of IP come in */
+    rfbBool isResting; /* nobody is accepted before the timer says so */
+    rfbBool isFull;  /* nobody is accepted before somebody has gone */
+    int64_t due;     /* when the next one may come while others are served */
+};
+
+/* Makes a door that is shut. */
+void rfbDoorInit(struct rfbDoor *door);
+
+/* Listens on the screen's port, or on the first that is free, and puts that
+ * into port: FALSE where it can't, which is said. */
+rfbBool rfbDoorListen(struct rfbDoor *door, rfbScreenInfoPtr s);
+
+/* Has all that there is to wait for in one descriptor: the server's, and who
+ * comes. FALSE where the system refuses it. */
+rfbBool rfbDoorOpen(struct rfbDoor *door, int server);
+
+/* Listens no more. */
+void rfbDoorShut(struct rfbDoor *door);
+
+/* Closes all of it. */
+void rfbDoorClose(struct rfbDoor *door);
+
+/* Says whether there is room for one more. */
+void rfbDoorFill(struct rfbDoor *door, rfbBool isFull);
+
+/* Accepts the next connection: -1 where there is none, or it is to wait, as
+ * others are served, or the system has no room. */
+int rfbDoorNext(struct rfbDoor *door, rfbBool isBusy,
+                struct sockaddr_storage *from);
+
+/* Watches a connection, of which nothing is read, for its end; or no more. */
+void rfbDoorWatch(struct rfbDoor *door, int connection);
+void rfbDoorForget(struct rfbDoor *door, int connection);
+
+/* One of those that have ended, which is watched no more, or -1. */
+int rfbDoorEnded(struct rfbDoor *door);
+
+/* Makes a descriptor that can be read at once, and once rfbLookoutRest was
+ * called, only where the connection can. -1 where the system refuses it. */
+int rfbLookoutNew(int connection);
+void rfbLookoutRest(int lookout, int connection);
+
+#ifdef __cplusplus
+}
+#endif
+
+#endif
