@@ -538,9 +538,6 @@ static void part(rfbScreenInfoPtr s, rfbClientPtr cl)
     drop(cl);
 }
 
-/* What stands before an address of IPv4 where IPv6 is served too. */
-#define MAPPED "::ffff:"
-
 /* Writes down where a client comes from. */
 static void name_host(rfbClientPtr cl, const struct sockaddr_storage *from)
 {
@@ -550,9 +547,6 @@ static void name_host(rfbClientPtr cl, const struct sockaddr_storage *from)
     cl->host = cl->address;
     if (!inet_ntop(from->ss_family, at, cl->address, sizeof cl->address))
         strcpy(cl->address, "unknown");
-    if (!strncmp(cl->address, MAPPED, strlen(MAPPED)) &&
-        strchr(cl->address, '.'))
-        cl->host += strlen(MAPPED);
 }
 
 /* A client of a connection that came: NULL where memory is refused. */
@@ -1271,7 +1265,7 @@ static void say_place(rfbScreenInfoPtr s)
     char address[INET_ADDRSTRLEN] = "";
     inet_ntop(AF_INET, &s->listenInterface, address, sizeof address);
     rfbLog("listening on port %d of %s%s\n", s->port, address,
-           s->compat->door.isBoth ? " and of IPv6" : "");
+           s->compat->door.listeners[1] >= 0 ? " and of IPv6" : "");
     if (s->passwordCheck)
         rfbLog("passwordCheck is set, and authPasswdData isn't: nobody is "
                "asked for a password\n");

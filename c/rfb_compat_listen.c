@@ -6,7 +6,7 @@
  * is to wait for:
  *
  *   the server's descriptor   its viewers, and its waker
- *   the listener              unless accepting rests, or there is no room
+ *   the listeners             unless accepting rests, or there is no room
  *   the timer                 while accepting rests
  *   connections on hold       for their end alone
  */
@@ -35,25 +35,14 @@ enum {
 void rfbDoorInit(struct rfbDoor *door)
 {
     memset(door, 0, sizeof *door);
-    door->all = door->listener = door->clock = -1;
+    door->all = door->clock = -1;
+    door->listeners[0] = door->listeners[1] = -1;
 }
 
 /* ---- where it listens ---- */
 
-/* Whether one socket of IPv6 takes connections of both versions. */
-static int takes_both(void)
-{
-    int fd = socket(AF_INET6, SOCK_STREAM, 0);
-    int isAlone = 1;
-    socklen_t size = sizeof isAlone;
-    if (fd < 0) return 0;
-    if (getsockopt(fd, IPPROTO_IPV6, IPV6_V6ONLY, &isAlone, &size)) isAlone = 1;
-    close(fd);
-    return !isAlone;
-}
-
-/* A socket that listens at an address: -1 where it can't, and errno says why
- * not. */
+/* A socket that listens at an address, of IPv6 for that alone: -1 where it
+ * can't, and errno says why not. */
 static int listener_at(const struct sockaddr *at, socklen_t size)
 {
     const int yes = 1;
@@ -62,23 +51,14 @@ static int listener_at(const struct sockaddr *at, socklen_t size)
     int error;
     if (fd < 0) return -1;
     if (setsockopt(fd, SOL_SOCKET, SO_REUSEADDR, &yes, sizeof yes) == 0 &&
+        (at->sa_family != AF_INET6 ||
+         setsockopt(fd, IPPROTO_IPV6, IPV6_V6ONLY, &yes, sizeof yes) == 0) &&
         bind(fd, at, size) == 0 && listen(fd, BACKLOG) == 0)
         return fd;
     error = errno;
     close(fd);
     errno = error;
     return -1;
-}
-
-/* The same at a port of all of the machine's addresses, by both versions. */
-static int listener_of_both(int port)
-{
-    struct sockaddr_in6 at;
-    memset(&at, 0, sizeof at);
-    at.sin6_family = AF_INET6;
-    at.sin6_addr = in6addr_any;
-    at.sin6_port = htons((uint16_t)port);
-    return listener_at((const struct sockaddr *)&at, sizeof at);
 }
 
 /* The same at a port of an address of IPv4. */
@@ -92,20 +72,21 @@ static int listener_of_ipv4(in_addr_t address, int port)
     return listener_at((const struct sockaddr *)&at, sizeof at);
 }
 
-/* Listens at a port, by both versions where that is wanted and can be had. */
-static void listen_by(struct rfbDoor *door, rfbScreenInfoPtr s, int port,
-                      int isBoth)
+/* The same at a port of all of the machine's addresses of IPv6. */
+static int listener_of_ipv6(int port)
 {
-    door->listener = isBoth ? listener_of_both(port) : -1;
-    door->isBoth = door->listener >= 0 ? TRUE : FALSE;
-    if (door->listener < 0)
-        door->listener = listener_of_ipv4(s->listenInterface, port);
+    struct sockaddr_in6 at;
+    memset(&at, 0, sizeof at);
+    at.sin6_family = AF_INET6;
+    at.sin6_addr = in6addr_any;
+    at.sin6_port = htons((uint16_t)port);
+    return listener_at((const struct sockaddr *)&at, sizeof at);
 }
 
 rfbBool rfbDoorListen(struct rfbDoor *door, rfbScreenInfoPtr s)
 {
-    const int isBoth = s->listenInterface == htonl(INADDR_ANY) &&
-                       s->ipv6port > 0 && takes_both();
+    const int isBoth =
+        s->listenInterface == htonl(INADDR_ANY) && s->ipv6port > 0;
     const int last = s->autoPort ? LAST_PORT : s->port;
     int port = s->autoPort ? FIRST_PORT : s->port;
     char address[INET_ADDRSTRLEN] = "";
@@ -113,11 +94,12 @@ rfbBool rfbDoorListen(struct rfbDoor *door, rfbScreenInfoPtr s)
         rfbErr("nobody is served: there is no port %d\n", s->port);
         return FALSE;
     }
-    listen_by(door, s, port, isBoth);
-    while (door->listener < 0 && port < last)
-        listen_by(door, s, ++port, isBoth);
-    if (door->listener >= 0) {
+    door->listeners[0] = listener_of_ipv4(s->listenInterface, port);
+    while (door->listeners[0] < 0 && port < last)
+        door->listeners[0] = listener_of_ipv4(s->listenInterface, ++port);
+    if (door->listeners[0] >= 0) {
         s->port = port;
+        if (isBoth) door->listeners[1] = listener_of_ipv6(port);
         return TRUE;
     }
     inet_ntop(AF_INET, &s->listenInterface, address, sizeof address);
@@ -143,8 +125,9 @@ static void hear(struct rfbDoor *door)
 {
     uint32_t events = 0;
     if (!door->isResting && !door->isFull) events = EPOLLIN;
-    if (door->listener >= 0)
-        set(door->all, EPOLL_CTL_MOD, door->listener, events);
+    for (int k = 0; k < 2; k++)
+        if (door->listeners[k] >= 0)
+            set(door->all, EPOLL_CTL_MOD, door->listeners[k], events);
 }
 
 rfbBool rfbDoorOpen(struct rfbDoor *door, int server)
@@ -158,7 +141,10 @@ rfbBool rfbDoorOpen(struct rfbDoor *door, int server)
             set(door->all, EPOLL_CTL_ADD, door->clock, EPOLLIN) < 0)
             return FALSE;
     }
-    if (set(door->all, EPOLL_CTL_ADD, door->listener, 0) < 0) return FALSE;
+    for (int k = 0; k < 2; k++)
+        if (door->listeners[k] >= 0 &&
+            set(door->all, EPOLL_CTL_ADD, door->listeners[k], 0) < 0)
+            return FALSE;
     hear(door);
     return TRUE;
 }
@@ -171,12 +157,13 @@ static void shut(int *fd)
 
 void rfbDoorShut(struct rfbDoor *door)
 {
-    shut(&door->listener);
+    shut(&door->listeners[0]);
+    shut(&door->listeners[1]);
 }
 
 void rfbDoorClose(struct rfbDoor *door)
 {
-    shut(&door->listener);
+    rfbDoorShut(door);
     shut(&door->clock);
     shut(&door->all);
     rfbDoorInit(door);
@@ -221,16 +208,22 @@ static int rests(struct rfbDoor *door)
 }
 
 /* A connection's descriptor, which waits for nothing, and is no child's: -1
- * where there is none. */
+ * where there is none. The listeners are asked in turn. */
 static int accepted(struct rfbDoor *door, struct sockaddr_storage *from)
 {
-    socklen_t size = sizeof *from;
-    int fd;
-    memset(from, 0, sizeof *from);
-    fd = accept(door->listener, (struct sockaddr *)from, &size);
-    if (fd < 0 && (errno == EMFILE || errno == ENFILE || errno == ENOBUFS ||
-                   errno == ENOMEM))
-        rest(door, NO_ROOM);
+    int fd = -1;
+    for (int k = 0; k < 2 && fd < 0; k++) {
+        socklen_t size = sizeof *from;
+        door->next = !door->next;
+        memset(from, 0, sizeof *from);
+        fd = accept(door->listeners[door->next], (struct sockaddr *)from,
+                    &size);
+        if (fd < 0 && (errno == EMFILE || errno == ENFILE ||
+                       errno == ENOBUFS || errno == ENOMEM)) {
+            rest(door, NO_ROOM);
+            return -1;
+        }
+    }
     if (fd >= 0) {
         fcntl(fd, F_SETFD, FD_CLOEXEC);
         fcntl(fd, F_SETFL, O_NONBLOCK);
@@ -244,7 +237,7 @@ int rfbDoorNext(struct rfbDoor *door, rfbBool isBusy,
     const int64_t now = microseconds();
     const int64_t pause = isBusy ? door->due - now - AHEAD : 0;
     int fd;
-    if (door->listener < 0 || rests(door)) return -1;
+    if (door->listeners[0] < 0 || rests(door)) return -1;
     if (pause > 0) {
         rest(door, pause);
         return -1;
@@ -270,8 +263,8 @@ void rfbDoorForget(struct rfbDoor *door, int connection)
 
 int rfbDoorEnded(struct rfbDoor *door)
 {
-    struct epoll_event found[4]; /* three of them may be no connections */
-    const int count = epoll_wait(door->all, found, 4, 0);
+    struct epoll_event found[5]; /* four of them may be no connections */
+    const int count = epoll_wait(door->all, found, 5, 0);
     for (int k = 0; k < count; k++)
         if (found[k].events & (EPOLLRDHUP | EPOLLHUP | EPOLLERR)) {
             rfbDoorForget(door, found[k].data.fd);

@@ -12,13 +12,13 @@ extern "C" {
 
 /* Where connections come in. A descriptor that isn't there is -1. */
 struct rfbDoor {
-    int all;         /* an epoll: it can be read where something is to be done */
-    int listener;    /* the socket that listens */
-    int clock;       /* a timer, which ends a rest */
-    rfbBool isBoth;  /* both versions of IP come in */
+    int all;          /* an epoll: it can be read where there is work to do */
+    int listeners[2]; /* the sockets that listen: of IPv4, and of IPv6 */
+    int next;         /* which of them was asked last */
+    int clock;        /* a timer, which ends a rest */
     rfbBool isResting; /* nobody is accepted before the timer says so */
-    rfbBool isFull;  /* nobody is accepted before somebody has gone */
-    int64_t due;     /* when the next one may come while others are served */
+    rfbBool isFull;    /* nobody is accepted before somebody has gone */
+    int64_t due;       /* when the next may come while others are served */
 };
 
 /* Makes a door that is shut. */

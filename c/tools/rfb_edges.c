@@ -360,13 +360,11 @@ static int versions(void)
 {
     const int yes = 1;
     struct sockaddr_in6 at;
-    int probe = socket(AF_INET6, SOCK_STREAM, 0), others = -1, is_alone = 1, has_both, fd, k;
-    socklen_t size = sizeof is_alone;
+    int probe = socket(AF_INET6, SOCK_STREAM, 0), others = -1, has_both, fd, k;
     memset(&at, 0, sizeof at);
     at.sin6_family = AF_INET6;
     at.sin6_addr = in6addr_loopback;
-    has_both = probe >= 0 && getsockopt(probe, IPPROTO_IPV6, IPV6_V6ONLY, &is_alone, &size) == 0 && !is_alone;
-    has_both = has_both && bind(probe, (struct sockaddr *)&at, sizeof at) == 0;
+    has_both = probe >= 0 && bind(probe, (struct sockaddr *)&at, sizeof at) == 0;
     if (probe >= 0) close(probe);
     for (k = 0; k < 3; k++) {
         rfbScreenInfoPtr s = screen(4);
