@@ -108,10 +108,9 @@ struct rfbCompat {
     sraRect marked[MOST_MARKS];
     int marks;
     int64_t asked;       /* how often viewers asked for all */
+    int64_t lost;        /* how much of what viewers did was lost */
     sraRect dense;       /* what last differed nearly everywhere */
     int uncompared;      /* so many times more it isn't compared */
-    const char *record;  /* the file of -record, or NULL */
-    const char *promise; /* the word that promises what isn't here, or NULL */
     struct heard heard[MOST_HEARD]; /* a ring; others wait in the library */
     int first;                      /* where the ring begins */
     int inputs;                     /* how many are in it */
@@ -498,8 +497,12 @@ static void let_go(rfbScreenInfoPtr s, uint64_t number)
 static void note_gone(rfbClientPtr cl)
 {
     cl->isGone = TRUE;
-    if (cl->connection >= 0) shutdown(cl->connection, SHUT_RDWR);
-    else cl->sock = RFB_INVALID_SOCKET;
+    if (cl->connection < 0) {
+        cl->sock = RFB_INVALID_SOCKET;
+        return;
+    }
+    rfbDoorForget(&cl->screen->compat->door, cl->connection);
+    shutdown(cl->connection, SHUT_RDWR);
 }
 
 /* Lets a client out of somebody's hands: it is freed with the last that held
@@ -790,7 +793,7 @@ static void end_server(rfbScreenInfoPtr s)
     struct rfbCompat *c = s->compat;
     if (c->server &&
         vnc_server_record_state(c->server) == VNC_RECORD_BROKEN)
-        rfbErr("the record %s has ended before its session\n", c->record);
+        rfbErr("the record %s has ended before its session\n", s->record);
     vnc_waker_free(c->waker);
     c->waker = NULL;
     vnc_server_free(c->server);
@@ -875,7 +878,7 @@ void rfbReleaseClientIterator(rfbClientIteratorPtr i)
 /* What asks for protection that isn't here, or NULL. */
 static const char *protection_of(rfbScreenInfoPtr s)
 {
-    return s->authPasswdData ? "authPasswdData is set" : s->compat->promise;
+    return s->authPasswdData ? "authPasswdData is set" : s->promise;
 }
 
 /* Whether protection is wanted that isn't here, which is said. */
@@ -889,14 +892,23 @@ static rfbBool is_refused(rfbScreenInfoPtr s)
     return truth(what != NULL);
 }
 
-/* Notes who left, by what the library says. */
+/* Notes who left, by what the library says; and where that was lost, by whom it
+ * has. */
 static void note_events(rfbScreenInfoPtr s)
 {
+    struct rfbCompat *c = s->compat;
+    const int64_t lost = vnc_server_lost_count(c->server);
     vnc_event event;
-    while (vnc_server_next_events(s->compat->server, &event, 1) > 0) {
-        rfbClientPtr cl = client_of(s->clientHead, event.viewer);
+    rfbClientPtr cl;
+    while (vnc_server_next_events(c->server, &event, 1) > 0) {
+        cl = client_of(s->clientHead, event.viewer);
         if (cl && event.kind == VNC_EVENT_DISCONNECTED) note_gone(cl);
     }
+    for (cl = s->clientHead; cl && lost > c->lost; cl = cl->next)
+        if (cl->number && !cl->isGone &&
+            vnc_server_is_open(c->server, cl->number) == VNC_ERROR_NO_VIEWER)
+            note_gone(cl);
+    c->lost = lost;
 }
 
 /* Takes what is marked, and a turn of the library's, and sees to what came of
@@ -1196,7 +1208,7 @@ static void say_refusal(rfbScreenInfoPtr s, int32_t code, int error)
                                              code == VNC_ERROR_CANNOT_RECORD));
     const char *why = isSystem ? strerror(error) : vnc_code_text(code);
     if (code == VNC_ERROR_CANNOT_RECORD)
-        rfbErr("the record %s can't be made: %s\n", s->compat->record, why);
+        rfbErr("the record %s can't be made: %s\n", s->record, why);
     rfbErr("nobody is served on port %d: %s\n", s->port, why);
 }
 
@@ -1211,7 +1223,7 @@ static int32_t make_server(rfbScreenInfoPtr s)
     if (s->desktopName) strncpy(name, s->desktopName, sizeof name - 1);
     if (server) {
         vnc_server_init(server);
-        code = vnc_server_record(server, c->record ? c->record : "");
+        code = vnc_server_record(server, s->record ? s->record : "");
     }
     if (code == 0)
         code = vnc_server_serve(server, (uint32_t)s->width, (uint32_t)s->height,
@@ -1250,7 +1262,7 @@ static rfbBool open_door(rfbScreenInfoPtr s)
 {
     struct rfbCompat *c = s->compat;
     if (!c->server) {
-        c->asked = 0;
+        c->asked = c->lost = 0;
         c->isEnding = FALSE;
         if (make_server(s) < 0 || make_waker(c) < 0) return FALSE;
     }
@@ -1351,177 +1363,4 @@ void rfbScreenCleanup(rfbScreenInfoPtr s)
     pthread_mutex_destroy(&s->cursorMutex);
     pthread_mutex_destroy(&s->compat->lock);
     free(s);
-}
-
-/* ---- arguments ---- */
-
-/* Takes so many words out of the list. */
-static void take_out(int *argc, char **argv, int at, int count)
-{
-    memmove(argv + at, argv + at + count,
-            (size_t)(*argc - at - count) * sizeof *argv);
-    *argc -= count;
-    argv[*argc] = NULL;
-}
-
-/* What a word does: it sets a field to a number, a text or TRUE; says where to
- * listen or record; or what is said of it. VALUE and NOTHING have no effect,
- * the first with a value. */
-enum effect {
-    NUMBER,
-    TEXT,
-    FLAG,
-    ADDRESS,
-    RECORD,
-    PASSWORD,
-    PROMISE,
-    IPV4_ALONE,
-    VALUE,
-    NOTHING,
-    HELP
-};
-
-#define AT(field) offsetof(rfbScreenInfo, field)
-#define REFUSED_PASSWORD \
-    "is refused: there are no passwords, and the screen is not served"
-#define REFUSED_TLS "is refused: there is no TLS, and the screen is not served"
-#define NO_EFFECT "has no effect here: "
-#define NO_HTTP NO_EFFECT "there is no HTTP"
-
-static const struct {
-    const char *word;
-    enum effect does;
-    size_t at;
-    const char *said;
-} words[] = {
-    {"-rfbport", NUMBER, AT(port), NULL},
-    {"-rfbportv6", NUMBER, AT(ipv6port),
-     "above 0: IPv6 is served on -rfbport's port; else not at all"},
-    {"-listen", ADDRESS, 0, NULL},
-    {"-listenv6", IPV4_ALONE, 0,
-     "has the screen served by IPv4 alone: IPv6 can't be confined to one "
-     "address here"},
-    {"-deferupdate", NUMBER, AT(deferUpdateTime), NULL},
-    {"-desktop", TEXT, AT(desktopName), NULL},
-    {"-alwaysshared", FLAG, AT(alwaysShared), NULL},
-    {"-nevershared", FLAG, AT(neverShared), NULL},
-    {"-dontdisconnect", FLAG, AT(dontDisconnect), NULL},
-    {"-record", RECORD, 0, NULL},
-    {"-passwd", PASSWORD, 0, REFUSED_PASSWORD},
-    {"-rfbauth", PASSWORD, 0, REFUSED_PASSWORD},
-    {"-sslkeyfile", PROMISE, 0, REFUSED_TLS},
-    {"-sslcertfile", PROMISE, 0, REFUSED_TLS},
-    {"-httpdir", TEXT, AT(httpDir), NO_HTTP},
-    {"-httpport", NUMBER, AT(httpPort), NO_HTTP},
-    {"-httpportv6", VALUE, 0, NO_HTTP},
-    {"-enablehttpproxy", FLAG, AT(httpEnableProxyConnect), NO_HTTP},
-    {"-rfbwait", VALUE, 0, NO_EFFECT "no viewer holds up another"},
-    {"-rfbversion", VALUE, 0, NO_EFFECT "the version is 3.8"},
-    {"-permitfiletransfer", NOTHING, 0, NO_EFFECT "no files are transferred"},
-    {"-deferptrupdate", VALUE, 0, NO_EFFECT "each pointer event is told"},
-    {"-progressive", VALUE, 0, NO_EFFECT "an update is sent as a whole"},
-    {"-help", HELP, 0, NULL},
-};
-enum { WORDS = sizeof words / sizeof *words };
-
-static rfbBool has_value(enum effect does)
-{
-    return truth(does != FLAG && does != NOTHING && does != HELP);
-}
-
-void rfbUsage(void)
-{
-    for (int k = 0; k < WORDS; k++)
-        fprintf(stderr, "%s%s %s\n", words[k].word,
-                has_value(words[k].does) ? " VALUE" : "",
-                words[k].said ? words[k].said : "");
-}
-
-/* Listens at this address: FALSE where it is none. */
-static rfbBool set_address(rfbScreenInfoPtr s, const char *value)
-{
-    const char *digits = strcmp(value, "localhost") ? value : "127.0.0.1";
-    if (!*value || !strcmp(value, "any")) {
-        s->listenInterface = htonl(INADDR_ANY);
-        return TRUE;
-    }
-    if (inet_pton(AF_INET, digits, &s->listenInterface) == 1) return TRUE;
-    rfbErr("-listen: %s is no address of IPv4 in digits\n", value);
-    return FALSE;
-}
-
-/* Does what a word does: FALSE where the screen is not to be had. */
-static rfbBool obey(rfbScreenInfoPtr s, int k, char *value)
-{
-    char *field = (char *)s + words[k].at;
-    int number;
-    if (words[k].said) rfbErr("%s %s\n", words[k].word, words[k].said);
-    switch (words[k].does) {
-    case NUMBER:
-        number = atoi(value);
-        memcpy(field, &number, sizeof number);
-        break;
-    case TEXT: memcpy(field, &value, sizeof value); break;
-    case FLAG: *(rfbBool *)field = TRUE; break;
-    case RECORD: s->compat->record = value; break;
-    case PASSWORD: s->authPasswdData = value; break;
-    case PROMISE: s->compat->promise = words[k].word; break;
-    case IPV4_ALONE: s->ipv6port = 0; break;
-    case ADDRESS: return set_address(s, value);
-    case HELP: rfbUsage(); return FALSE;
-    default: break;
-    }
-    return TRUE;
-}
-
-/* The number of a word, or WORDS. */
-static int number_of(const char *word)
-{
-    int k = 0;
-    while (k < WORDS && strcmp(word, words[k].word)) k++;
-    return k;
-}
-
-rfbBool rfbProcessArguments(rfbScreenInfoPtr s, int *argc, char **argv)
-{
-    for (int at = 1; argc && at < *argc;) {
-        const int k = number_of(argv[at]);
-        char *value = NULL;
-        if (k == WORDS) {
-            at++;
-            continue;
-        }
-        if (has_value(words[k].does) && at + 1 < *argc) value = argv[at + 1];
-        if (has_value(words[k].does) &&
-            (!value || (words[k].does == RECORD && !*value))) {
-            rfbErr("%s wants a value\n", words[k].word);
-            return FALSE;
-        }
-        take_out(argc, argv, at, value ? 2 : 1);
-        if (!obey(s, k, value)) return FALSE;
-    }
-    return TRUE;
-}
-
-/* What a word gives a size, or NULL. */
-static int *size_of_word(const char *word, int *width, int *height, int *bpp)
-{
-    if (!strcmp(word, "-width")) return width;
-    if (!strcmp(word, "-height")) return height;
-    return strcmp(word, "-bpp") ? NULL : bpp;
-}
-
-rfbBool rfbProcessSizeArguments(int *width, int *height, int *bpp, int *argc,
-                                char **argv)
-{
-    for (int at = 1; argc && at < *argc - 1;) {
-        int *size = size_of_word(argv[at], width, height, bpp);
-        if (!size) {
-            at++;
-            continue;
-        }
-        *size = atoi(argv[at + 1]);
-        take_out(argc, argv, at, 2);
-    }
-    return TRUE;
 }

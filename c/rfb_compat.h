@@ -169,6 +169,8 @@ typedef struct _rfbScreenInfo {
     /* Not the program's, from here on: characters stand in frameBuffer that are
      * maybe not marked. */
     rfbBool isWritten;
+    const char *record;  /* the file of -record, or NULL */
+    const char *promise; /* the word that promises what isn't here, or NULL */
     struct rfbCompat *compat;
 } rfbScreenInfo;
 

@@ -28,7 +28,7 @@ static guest guests[MOST];
 static char picture[W * H * 4];
 static enum rfbNewClientAction action;
 static int came, asked, gone, keys, ready_count, rfb_errors;
-static double next_update;
+static double next_update, patience = 20;
 
 static void err(const char *format, ...) { rfb_errors += format != NULL; }
 
@@ -45,8 +45,7 @@ static void leave(rfbClientPtr cl)
 {
     guest *g = (guest *)cl->clientData;
     gone++;
-    memset(g, 0, sizeof *g);
-    g->fd = -1;
+    if (g->cl == cl) memset(g, 0, sizeof *g), g->fd = -1;
 }
 
 static enum rfbNewClientAction come(rfbClientPtr cl)
@@ -139,7 +138,7 @@ static void loops(int ms)
 
 static int loops_until(const int *count, int wanted)
 {
-    double end = seconds() + 20;
+    double end = seconds() + patience;
     while (*count != wanted && seconds() < end) loops(5);
     return *count == wanted;
 }
@@ -187,7 +186,7 @@ static void round_of(int is_driven)
 /* Whether a viewer reads so many bytes; 0 where it is closed, or nothing comes. */
 static int reads_in(int fd, void *room, size_t count, int is_driven)
 {
-    double end = seconds() + 20;
+    double end = seconds() + patience;
     size_t at = 0;
     while (at < count && seconds() < end) {
         ssize_t n = recv(fd, (char *)room + at, count - at, MSG_DONTWAIT);
@@ -203,7 +202,7 @@ static int reads(int fd, void *room, size_t count) { return reads_in(fd, room, c
 /* Whether a viewer reads the end of its connection, and nothing before it. */
 static int ends_in(int fd, int is_driven)
 {
-    double end = seconds() + 20;
+    double end = seconds() + patience;
     char byte;
     ssize_t n = -1;
     do {
@@ -356,7 +355,7 @@ static int refusals(void)
  * accepted or refused as it comes. */
 static int records(void)
 {
-    int first, second, third, socket_of_first, k;
+    int first, second, third, socket_of_first, before, k;
     guest *g, *h;
     s = screen();
     HOLDS((first = comes()) >= 0 && is_served(first) && (second = comes()) >= 0 && is_served(second));
@@ -374,15 +373,23 @@ static int records(void)
     rfbClientConnectionGone(h->cl);
     IS(gone, 2);
     HOLDS(recv(second, &first, 1, MSG_DONTWAIT) == 0 && ends(second));
+    HOLDS((second = comes()) >= 0); /* closed on hold, it is parted with in its own call as well */
+    g = guest_of(second);
+    rfbCloseClient(g->cl);
+    before = ready_count;
+    loops_for(0.2);
+    HOLDS(ready_count - before < 5 && gone == 2 && g->cl->sock >= 0 && ends(second));
+    rfbUpdateClient(g->cl);
+    HOLDS(has_left(g) && gone == 3);
     action = RFB_CLIENT_REFUSE;
-    HOLDS((third = connects()) >= 0 && loops_until(&gone, 3) && ends(third));
+    HOLDS((third = connects()) >= 0 && loops_until(&gone, 4) && ends(third));
     action = RFB_CLIENT_ACCEPT;
-    HOLDS((third = connects()) >= 0 && says(third, OPENING, 14) && loops_until(&came, 4));
+    HOLDS((third = connects()) >= 0 && says(third, OPENING, 14) && loops_until(&came, 5));
     g = (guest *)s->clientHead->clientData;
     g->is_pending = 0;
     HOLDS(port_of(g->cl->sock) == port_here(third) && g->cl->onHold == FALSE && is_greeted(third, 1) && sees(third, 1));
     close(third);
-    HOLDS(loops_until(&gone, 4));
+    HOLDS(loops_until(&gone, 5));
     rfbScreenCleanup(s);
     return 0;
 }
@@ -461,11 +468,41 @@ static int no_room(void)
     return 0;
 }
 
-/* ---- a program whose turns the layer takes, in another thread ---- */
+/* ---- a program whose turns the layer takes ---- */
+
+/* As many as there may be are on hold: one more waits until one has left. */
+static int full(void)
+{
+    enum { ALL_OF_THEM = 1000 };
+    static int viewers[ALL_OF_THEM + 1];
+    struct rlimit limit, many;
+    double end = seconds() + patience;
+    int k;
+    if (getrlimit(RLIMIT_NOFILE, &limit)) return 1;
+    many = limit, many.rlim_cur = 2 * ALL_OF_THEM + 128;
+    if (setrlimit(RLIMIT_NOFILE, &many)) return 0; /* it can't be tried */
+    s = screen();
+    for (k = 0; k <= ALL_OF_THEM; k++) {
+        HOLDS((viewers[k] = connects()) >= 0);
+        while (came < k + 1 && k < ALL_OF_THEM && seconds() < end) rfbProcessEvents(s, 1000);
+    }
+    for (k = 0; k < 20; k++) rfbProcessEvents(s, 10000);
+    HOLDS(came == ALL_OF_THEM && gone == 0 && waits(viewers[ALL_OF_THEM]));
+    close(viewers[7]);
+    while (came == ALL_OF_THEM && seconds() < end) rfbProcessEvents(s, 1000);
+    HOLDS(came == ALL_OF_THEM + 1 && gone == 1);
+    rfbScreenCleanup(s);
+    HOLDS(gone == ALL_OF_THEM + 1);
+    for (k = 0; k <= ALL_OF_THEM; k++)
+        if (k != 7) close(viewers[k]);
+    return setrlimit(RLIMIT_NOFILE, &limit);
+}
+
+/* The same in another thread. */
 
 static int sleeps_until(const int *count, int wanted)
 {
-    double end = seconds() + 20;
+    double end = seconds() + patience;
     while (*(const volatile int *)count != wanted && seconds() < end) round_of(0);
     return *(const volatile int *)count == wanted;
 }
@@ -515,10 +552,13 @@ static int passwords(void)
     return 0;
 }
 
-int main(void)
+/* With an argument it is less patient. */
+int main(int argc, char **argv)
 {
+    (void)argv;
+    if (argc > 1) patience = 3;
     rfbErr = err;
-    DO(admission() || refusals() || records() || ending() || floods() || no_room() || background() || passwords());
+    DO(admission() || refusals() || records() || ending() || floods() || no_room() || full() || background() || passwords());
     puts("rfb_drive ok");
     return 0;
 }

@@ -79,19 +79,19 @@ def runs_all(commands):
 def build(kind, qt, tools, flags):
     """krfb's files, each by itself, and the program."""
     folder = prepare(kind)
-    headers = [f"{part}.h" for part in PARTS]
+    headers = [it for it in (*(f"{part}.h" for part in PARTS), "krfb_kde.h") if "Q_OBJECT" in text_of(f"{folder}/{it}")]
     compiler = [os.environ.get("CXX", "c++"), "-std=c++17", "-g", "-O1", "-fPIC", "-w", f"-I{folder}", f"-I{HERE}/tools"]
     compiler += [it for it in (*flags, *qt) if it.startswith(("-I", "-D"))]
     shutil.copy(f"{HERE}/tools/krfb_main.cpp", folder)
     shutil.copy(f"{HERE}/tools/krfb_kde.h", folder)
-    made = [["moc" if it.endswith(".h") else "uic", it] for it in (*headers, "krfb_kde.h", "ui/connectionwidget.ui")]
-    commands = [[f"{tools}/{tool}", f"{folder}/{it}", "-o", f"{folder}/moc_{it[:-2]}.cpp" if tool == "moc" else f"{folder}/ui_connectionwidget.h"] for tool, it in made]
+    commands = [[f"{tools}/moc", f"{folder}/{it}", "-o", f"{folder}/moc_{it[:-2]}.cpp"] for it in headers]
+    commands.append([f"{tools}/uic", f"{folder}/ui/connectionwidget.ui", "-o", f"{folder}/ui_connectionwidget.h"])
     if not runs_all(commands):
         raise OSError("moc or uic fails")
-    sources = [*(f"{part}.cpp" for part in PARTS), "krfb_main.cpp", *(f"moc_{it[:-2]}.cpp" for tool, it in made if tool == "moc")]
-    sources = [it for it in sources if "Q_OBJECT" in text_of(f"{folder}/{it[4:-4]}.h") or not it.startswith("moc_")]
-    for k in range(0, len(sources), os.cpu_count() or 1):
-        if not runs_all([*compiler, "-c", "-o", f"{folder}/{it}.o", f"{folder}/{it}"] for it in sources[k : k + (os.cpu_count() or 1)]):
+    sources = [*(f"{part}.cpp" for part in PARTS), "krfb_main.cpp", *(f"moc_{it[:-2]}.cpp" for it in headers)]
+    together = os.cpu_count() or 1
+    for k in range(0, len(sources), together):
+        if not runs_all([*compiler, "-c", "-o", f"{folder}/{it}.o", f"{folder}/{it}"] for it in sources[k : k + together]):
             raise OSError("it does not compile")
     objects = [f"{folder}/{it}.o" for it in sources]
     others = [it for it in (*flags, *qt) if not it.startswith(("-I", "-D"))]
