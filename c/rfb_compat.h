@@ -183,8 +183,10 @@ typedef struct _rfbClientRec {
      * rfbProcessClientMessage. */
     rfbSocket sock;
     char *host;       /* its address in digits, or "unknown" */
-    /* How far its opening is: before RFB_INITIALISATION the server hasn't its
-     * connection. The others don't come. */
+    /* How far it is: RFB_PROTOCOL_VERSION as it comes, RFB_INITIALISATION as
+     * the server has its connection, or of one on hold as
+     * rfbProcessClientMessage says, RFB_NORMAL once its opening is over. The
+     * others don't come. */
     enum {
         RFB_PROTOCOL_VERSION,
         RFB_SECURITY_TYPE,
@@ -194,8 +196,9 @@ typedef struct _rfbClientRec {
         RFB_INITIALISATION_SHARED,
         RFB_SHUTDOWN
     } state;
-    /* The program sets it to FALSE, where newClientHook had it on hold: the
-     * next turn begins to serve it. Who is served can't be put on hold. */
+    /* Set where newClientHook answers so. The program sets it to FALSE, and the
+     * next turn begins to serve the client; who is served can't be put on
+     * hold. */
     rfbBool onHold;
     rfbBool viewOnly; /* its inputs go to no hook */
     rfbBool cursorWasMoved; /* not read */
@@ -301,21 +304,25 @@ void rfbCloseClient(rfbClientPtr cl);
 void rfbStartOnHoldClient(rfbClientPtr cl);
 void rfbRefuseOnHoldClient(rfbClientPtr cl);
 
-/* For a program that waits for sockets itself, and not by rfbProcessEvents:
- * each of these three takes a turn that doesn't wait, in which all that is
- * ready is done, for all clients, and tells the hooks all inputs that wait.
- * They part with nobody, but for who is refused: once sock is -1, in a call for
- * that client, the program calls rfbClientConnectionGone.
- * The first is called once listenSock can be read, which has what comes of
- * clients too, and answers whether a connection came. The others are called
- * once sock can be read, and for updates, every so many milliseconds; the last
- * answers as rfbProcessEvents does.
- * In newClientHook of such a turn, and while onHold, sock is a descriptor that
- * can be read at once. The first rfbProcessClientMessage of a client on hold
- * processes nothing: it puts the connection's own there, and
- * RFB_INITIALISATION into state. Then the program may ask its user. */
+/* A program may wait for sockets itself, and not by rfbProcessEvents. Each of
+ * the next three calls takes a turn that doesn't wait: what is ready is done,
+ * for all clients, and the hooks are told all inputs. A turn of theirs parts
+ * with nobody, but for who is refused. A client that has left has its sock
+ * until the program calls one of the last two for it. Then that is -1, and the
+ * program calls rfbClientConnectionGone. */
+
+/* Is called once listenSock can be read, as it can for what comes of clients
+ * too: whether a connection came. In its newClientHook, and for a client on
+ * hold, sock is a descriptor of the layer's that can be read at once. */
 rfbBool rfbProcessNewConnection(rfbScreenInfoPtr s);
+
+/* Is called once sock can be read. For a client on hold nothing is processed:
+ * its sock is its own connection from then on, and state RFB_INITIALISATION, so
+ * that the program asks its user of it. */
 void rfbProcessClientMessage(rfbClientPtr cl);
+
+/* Is called every so many milliseconds, for what was marked. It answers as
+ * rfbProcessEvents does. */
 rfbBool rfbUpdateClient(rfbClientPtr cl);
 
 /* Parts with a client, whether it has left or not: it is closed, its
