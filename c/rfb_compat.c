@@ -68,6 +68,8 @@ enum {
     FIRST_PORT = 5900,
     /* How many are accepted in a turn while nobody is served, at most. */
     MOST_ACCEPTED = 32,
+    /* How many descriptors a turn finds ready, at most. */
+    MOST_READY = 16,
     /* In milliseconds: so often a turn that waits looks whether a client is on
      * hold still, as a program sets that with no call. */
     HOLD_LOOK = 20,
@@ -665,21 +667,15 @@ static void admit_some(rfbScreenInfoPtr s)
         if (is_waiting(cl) && !cl->onHold) admit(s, cl);
 }
 
-/* Lets go those that are to be closed, and notes who left while on hold. */
+/* Lets go those that are to be closed. */
 static void close_some(rfbScreenInfoPtr s)
 {
-    int connection;
-    rfbBool isHeld = FALSE;
     for (rfbClientPtr cl = s->clientHead; cl; cl = cl->next) {
-        isHeld = truth(isHeld || is_waiting(cl));
         if (!cl->isClosing || cl->isLetGo || cl->isGone) continue;
         cl->isLetGo = TRUE;
         if (cl->number) let_go(s, cl->number);
         else note_gone(cl);
     }
-    while (isHeld && (connection = rfbDoorEnded(&s->compat->door)) >= 0)
-        for (rfbClientPtr cl = s->clientHead; cl; cl = cl->next)
-            if (cl->connection == connection) note_gone(cl);
 }
 
 /* The client that came first of those whose opening is over since the last
@@ -968,20 +964,33 @@ static int wait_of(rfbScreenInfoPtr s, int ms)
     return smaller(ms, smaller(larger(vnc_server_timeout(c->server), 0), most));
 }
 
+/* Notes that a descriptor was ready: where it is a connection that waits for
+ * the server, that has ended. */
+static void note_ready(rfbScreenInfoPtr s, int ready)
+{
+    struct rfbCompat *c = s->compat;
+    if (!c->server ||
+        rfbDoorNote(&c->door, vnc_server_fd(c->server), ready))
+        return;
+    for (rfbClientPtr cl = s->clientHead; cl; cl = cl->next)
+        if (cl->connection == ready && is_waiting(cl)) note_gone(cl);
+}
+
 /* Waits until there is something to do, without the lock, for so many
  * milliseconds at most: whether a socket was ready. */
 static rfbBool wait_for(rfbScreenInfoPtr s, int ms)
 {
     struct rfbCompat *c = s->compat;
-    struct pollfd ready = {-1, POLLIN, 0};
+    int ready[MOST_READY], count, all;
     c->waiting++;
     ms = wait_of(s, ms);
-    ready.fd = c->door.all;
+    all = c->door.all;
     unlock(s);
-    poll(&ready, 1, ms);
+    count = rfbDoorWait(all, ms, ready, MOST_READY);
     lock(s);
     c->waiting--;
-    return truth(ready.revents);
+    for (int k = 0; k < count; k++) note_ready(s, ready[k]);
+    return truth(count > 0);
 }
 
 /* Takes one turn, which waits so many milliseconds at most, for a program that

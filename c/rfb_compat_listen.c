@@ -14,6 +14,7 @@
 #include "rfb_compat_listen.h"
 #include <errno.h>
 #include <fcntl.h>
+#include <poll.h>
 #include <sys/epoll.h>
 #include <sys/timerfd.h>
 #include <time.h>
@@ -176,6 +177,29 @@ void rfbDoorFill(struct rfbDoor *door, rfbBool isFull)
     hear(door);
 }
 
+int rfbDoorWait(int all, int milliseconds, int *ready, int most)
+{
+    struct epoll_event found[16];
+    const int room = most < 16 ? most : 16;
+    int count;
+    if (all < 0) {
+        poll(NULL, 0, milliseconds);
+        return 0;
+    }
+    count = epoll_wait(all, found, room, milliseconds);
+    for (int k = 0; k < count; k++) ready[k] = found[k].data.fd;
+    return count > 0 ? count : 0;
+}
+
+rfbBool rfbDoorNote(struct rfbDoor *door, int server, int ready)
+{
+    if (ready == door->listeners[0] || ready == door->listeners[1] ||
+        ready == door->clock)
+        door->isKnocked = TRUE;
+    else if (ready != server) return FALSE;
+    return TRUE;
+}
+
 /* ---- who comes ---- */
 
 static int64_t microseconds(void)
@@ -193,6 +217,7 @@ static void rest(struct rfbDoor *door, int64_t time)
     until.it_value.tv_nsec = (long)time * 1000;
     timerfd_settime(door->clock, 0, &until, NULL);
     door->isResting = TRUE;
+    door->isKnocked = FALSE;
     hear(door);
 }
 
@@ -224,20 +249,23 @@ static int accepted(struct rfbDoor *door, struct sockaddr_storage *from)
             return -1;
         }
     }
-    if (fd >= 0) {
-        fcntl(fd, F_SETFD, FD_CLOEXEC);
-        fcntl(fd, F_SETFL, O_NONBLOCK);
+    if (fd < 0) {
+        door->isKnocked = FALSE;
+        return -1;
     }
+    fcntl(fd, F_SETFD, FD_CLOEXEC);
+    fcntl(fd, F_SETFL, O_NONBLOCK);
     return fd;
 }
 
 int rfbDoorNext(struct rfbDoor *door, rfbBool isBusy,
                 struct sockaddr_storage *from)
 {
-    const int64_t now = microseconds();
-    const int64_t pause = isBusy ? door->due - now - AHEAD : 0;
+    int64_t now, pause;
     int fd;
-    if (door->listeners[0] < 0 || rests(door)) return -1;
+    if (!door->isKnocked || door->listeners[0] < 0 || rests(door)) return -1;
+    now = microseconds();
+    pause = isBusy ? door->due - now - AHEAD : 0;
     if (pause > 0) {
         rest(door, pause);
         return -1;
@@ -259,18 +287,6 @@ void rfbDoorForget(struct rfbDoor *door, int connection)
 {
     if (door->all >= 0 && connection >= 0)
         set(door->all, EPOLL_CTL_DEL, connection, 0);
-}
-
-int rfbDoorEnded(struct rfbDoor *door)
-{
-    struct epoll_event found[5]; /* four of them may be no connections */
-    const int count = epoll_wait(door->all, found, 5, 0);
-    for (int k = 0; k < count; k++)
-        if (found[k].events & (EPOLLRDHUP | EPOLLHUP | EPOLLERR)) {
-            rfbDoorForget(door, found[k].data.fd);
-            return found[k].data.fd;
-        }
-    return -1;
 }
 
 int rfbLookoutNew(int connection)

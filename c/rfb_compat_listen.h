@@ -16,6 +16,7 @@ struct rfbDoor {
     int listeners[2]; /* the sockets that listen: of IPv4, and of IPv6 */
     int next;         /* which of them was asked last */
     int clock;        /* a timer, which ends a rest */
+    rfbBool isKnocked; /* somebody may be there */
     rfbBool isResting; /* nobody is accepted before the timer says so */
     rfbBool isFull;    /* nobody is accepted before somebody has gone */
     int64_t due;       /* when the next may come while others are served */
@@ -41,6 +42,14 @@ void rfbDoorClose(struct rfbDoor *door);
 /* Says whether there is room for one more. */
 void rfbDoorFill(struct rfbDoor *door, rfbBool isFull);
 
+/* Waits for so many milliseconds at most: how many descriptors are ready, and
+ * the first of them. `all` is that of a door, or -1. */
+int rfbDoorWait(int all, int milliseconds, int *ready, int most);
+
+/* Notes that a descriptor was ready: FALSE where it isn't one of the door's
+ * own, and so a connection that is watched, which has ended. */
+rfbBool rfbDoorNote(struct rfbDoor *door, int server, int ready);
+
 /* Accepts the next connection: -1 where there is none, or it is to wait, as
  * others are served, or the system has no room. */
 int rfbDoorNext(struct rfbDoor *door, rfbBool isBusy,
@@ -49,9 +58,6 @@ int rfbDoorNext(struct rfbDoor *door, rfbBool isBusy,
 /* Watches a connection, of which nothing is read, for its end; or no more. */
 void rfbDoorWatch(struct rfbDoor *door, int connection);
 void rfbDoorForget(struct rfbDoor *door, int connection);
-
-/* One of those that have ended, which is watched no more, or -1. */
-int rfbDoorEnded(struct rfbDoor *door);
 
 /* Makes a descriptor that can be read at once, and once rfbLookoutRest was
  * called, only where the connection can. -1 where the system refuses it. */
