@@ -778,7 +778,8 @@ static rfbBool tell_next(rfbScreenInfoPtr s)
     c->inputs--;
     hear(s);
     cl = client_of(s->clientHead, next.in.viewer);
-    if (cl && !cl->isClosing && !cl->viewOnly) tell(s, cl, &next);
+    if (cl && !cl->isClosing && !cl->isParted && !cl->viewOnly)
+        tell(s, cl, &next);
     free(next.text);
     return TRUE;
 }

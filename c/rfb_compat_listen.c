@@ -14,6 +14,7 @@
 #include "rfb_compat_listen.h"
 #include <errno.h>
 #include <fcntl.h>
+#include <netinet/tcp.h>
 #include <poll.h>
 #include <sys/epoll.h>
 #include <sys/timerfd.h>
@@ -30,7 +31,12 @@ enum {
     APART = 1000,
     AHEAD = 64 * APART,
     /* So long it rests where the system has no room for a connection. */
-    NO_ROOM = 100000
+    NO_ROOM = 100000,
+    /* In seconds: after so long a connection on hold is asked for a sign, and
+     * so often again. Behind so many that didn't come it has ended. */
+    SILENCE = 60,
+    INTERVAL = 10,
+    SIGNS = 6
 };
 
 void rfbDoorInit(struct rfbDoor *door)
@@ -278,8 +284,17 @@ int rfbDoorNext(struct rfbDoor *door, rfbBool isBusy,
 
 /* ---- who waits ---- */
 
+static void set_option(int connection, int level, int option, int value)
+{
+    setsockopt(connection, level, option, &value, sizeof value);
+}
+
 void rfbDoorWatch(struct rfbDoor *door, int connection)
 {
+    set_option(connection, SOL_SOCKET, SO_KEEPALIVE, 1);
+    set_option(connection, IPPROTO_TCP, TCP_KEEPIDLE, SILENCE);
+    set_option(connection, IPPROTO_TCP, TCP_KEEPINTVL, INTERVAL);
+    set_option(connection, IPPROTO_TCP, TCP_KEEPCNT, SIGNS);
     set(door->all, EPOLL_CTL_ADD, connection, EPOLLRDHUP);
 }
 

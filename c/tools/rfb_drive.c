@@ -27,6 +27,8 @@ static rfbScreenInfoPtr s;
 static guest guests[MOST];
 static char picture[W * H * 4];
 static enum rfbNewClientAction action;
+static enum { NOTHING, REFUSES, CLOSES, PARTS, PARTS_WITH_OTHER } hook_does;
+static rfbClientPtr other;
 static int came, asked, gone, keys, ready_count, rfb_errors;
 static double next_update, patience = 20;
 
@@ -39,13 +41,21 @@ static double seconds(void)
     return (double)now.tv_sec + (double)now.tv_nsec / 1e9;
 }
 
-static void key(rfbBool down, rfbKeySym k, rfbClientPtr cl) { keys += down && k == 'a' && cl->onHold == FALSE; }
+static void key(rfbBool down, rfbKeySym k, rfbClientPtr cl)
+{
+    keys += down && k == 'a' && cl->onHold == FALSE;
+    if (hook_does == PARTS) rfbClientConnectionGone(cl);
+}
 
 static void leave(rfbClientPtr cl)
 {
     guest *g = (guest *)cl->clientData;
     gone++;
     if (g->cl == cl) memset(g, 0, sizeof *g), g->fd = -1;
+    if (hook_does == PARTS_WITH_OTHER) {
+        hook_does = NOTHING;
+        rfbClientConnectionGone(other);
+    }
 }
 
 static enum rfbNewClientAction come(rfbClientPtr cl)
@@ -58,6 +68,8 @@ static enum rfbNewClientAction come(rfbClientPtr cl)
     cl->clientData = &guests[k];
     cl->clientGoneHook = leave;
     came += cl->state == STATE(RFB_PROTOCOL_VERSION) && strcmp(cl->host, "127.0.0.1") == 0;
+    if (hook_does == REFUSES) rfbRefuseOnHoldClient(cl);
+    if (hook_does == CLOSES) rfbCloseClient(cl);
     return action;
 }
 
@@ -176,15 +188,19 @@ static int port_here(int fd)
 
 static int says(int fd, const char *bytes, size_t count) { return send(fd, bytes, count, MSG_NOSIGNAL) == (ssize_t)count; }
 
-static void round_of(int is_driven)
+/* Who takes turns while a viewer waits: the layer's own thread, this program's loop, or this program by rfbProcessEvents. */
+enum { THREAD, LOOP, EVENTS };
+
+static void round_of(int way)
 {
     struct timespec pause = {0, 1000000};
-    if (is_driven) loops(1);
+    if (way == LOOP) loops(1);
+    else if (way == EVENTS) rfbProcessEvents(s, 1000);
     else nanosleep(&pause, NULL);
 }
 
 /* Whether a viewer reads so many bytes; 0 where it is closed, or nothing comes. */
-static int reads_in(int fd, void *room, size_t count, int is_driven)
+static int reads_in(int fd, void *room, size_t count, int way)
 {
     double end = seconds() + patience;
     size_t at = 0;
@@ -192,15 +208,15 @@ static int reads_in(int fd, void *room, size_t count, int is_driven)
         ssize_t n = recv(fd, (char *)room + at, count - at, MSG_DONTWAIT);
         if (n == 0 || (n < 0 && errno != EAGAIN && errno != EWOULDBLOCK)) return 0;
         if (n > 0) at += (size_t)n;
-        else round_of(is_driven);
+        else round_of(way);
     }
     return at == count;
 }
 
-static int reads(int fd, void *room, size_t count) { return reads_in(fd, room, count, 1); }
+static int reads(int fd, void *room, size_t count) { return reads_in(fd, room, count, LOOP); }
 
 /* Whether a viewer reads the end of its connection, and nothing before it. */
-static int ends_in(int fd, int is_driven)
+static int ends_in(int fd, int way)
 {
     double end = seconds() + patience;
     char byte;
@@ -208,13 +224,13 @@ static int ends_in(int fd, int is_driven)
     do {
         n = recv(fd, &byte, 1, MSG_DONTWAIT);
         if (n < 0 && errno != EAGAIN && errno != EWOULDBLOCK) n = 0; /* it was reset */
-        if (n < 0) round_of(is_driven);
+        if (n < 0) round_of(way);
     } while (n < 0 && seconds() < end);
     close(fd);
     return n == 0;
 }
 
-static int ends(int fd) { return ends_in(fd, 1); }
+static int ends(int fd) { return ends_in(fd, LOOP); }
 
 /* Whether a viewer was sent nothing so far, and its connection stands. */
 static int waits(int fd)
@@ -230,19 +246,19 @@ static int waits(int fd)
 enum { GREETED = 12 + 2 + 4 + 24, UPDATE = 4 + 12 + W * H * 4 };
 
 /* Whether a viewer is greeted, by a server that has its opening. */
-static int is_greeted(int fd, int is_driven)
+static int is_greeted(int fd, int way)
 {
     uint8_t room[GREETED + 64];
-    return reads_in(fd, room, GREETED, is_driven) && memcmp(room, "RFB 003.008\n\x01\x01", 14) == 0 && room[19] == W && room[21] == H &&
-           reads_in(fd, room + GREETED, room[GREETED - 1], is_driven);
+    return reads_in(fd, room, GREETED, way) && memcmp(room, "RFB 003.008\n\x01\x01", 14) == 0 && room[19] == W && room[21] == H &&
+           reads_in(fd, room + GREETED, room[GREETED - 1], way);
 }
 
 /* Whether a viewer that asks for all is shown the picture, in one rectangle. */
-static int sees(int fd, int is_driven)
+static int sees(int fd, int way)
 {
     uint8_t room[UPDATE];
     int k, same = 0;
-    if (!says(fd, ALL, 10) || !reads_in(fd, room, UPDATE, is_driven)) return 0;
+    if (!says(fd, ALL, 10) || !reads_in(fd, room, UPDATE, way)) return 0;
     for (k = 0; k < W * H; k++) same += room[16 + 4 * k] == (uint8_t)picture[4 * k + 2] && room[18 + 4 * k] == (uint8_t)picture[4 * k];
     return same == W * H;
 }
@@ -269,7 +285,7 @@ static int comes(void)
 static int is_served(int fd)
 {
     guest *g = admits(guest_of(fd));
-    return is_greeted(fd, 1) && sees(fd, 1) && g->cl->state == STATE(RFB_NORMAL) && port_of(g->cl->sock) == port_here(fd);
+    return is_greeted(fd, LOOP) && sees(fd, LOOP) && g->cl->state == STATE(RFB_NORMAL) && port_of(g->cl->sock) == port_here(fd);
 }
 
 static rfbScreenInfoPtr screen(void)
@@ -342,7 +358,7 @@ static int refusals(void)
         else admits(g);
         if (k < 2) HOLDS(ends(fd));
         HOLDS(loops_until(&gone, k + 1));
-        HOLDS(sees(served, 1));
+        HOLDS(sees(served, LOOP));
     }
     close(served);
     HOLDS(loops_until(&gone, 5));
@@ -387,7 +403,7 @@ static int records(void)
     HOLDS((third = connects()) >= 0 && says(third, OPENING, 14) && loops_until(&came, 5));
     g = (guest *)s->clientHead->clientData;
     g->is_pending = 0;
-    HOLDS(port_of(g->cl->sock) == port_here(third) && g->cl->onHold == FALSE && is_greeted(third, 1) && sees(third, 1));
+    HOLDS(port_of(g->cl->sock) == port_here(third) && g->cl->onHold == FALSE && is_greeted(third, LOOP) && sees(third, LOOP));
     close(third);
     HOLDS(loops_until(&gone, 5));
     rfbScreenCleanup(s);
@@ -407,10 +423,10 @@ static int ending(void)
     rfbInitServer(s);
     HOLDS(rfbIsActive(s) && s->port == port && (served = comes()) >= 0 && is_served(served) && (held = comes()) >= 0);
     rfbShutdownServer(s, FALSE);
-    HOLDS(gone == 2 && rfbIsActive(s) && connects() == -1 && sees(served, 1) && waits(held));
+    HOLDS(gone == 2 && rfbIsActive(s) && connects() == -1 && sees(served, LOOP) && waits(held));
     HOLDS(is_served(held));
     rfbInitServer(s); /* who is there stays */
-    HOLDS((fd = comes()) >= 0 && is_served(fd) && sees(served, 1));
+    HOLDS((fd = comes()) >= 0 && is_served(fd) && sees(served, LOOP));
     rfbShutdownServer(s, FALSE);
     close(served), close(held), close(fd);
     HOLDS(loops_until(&gone, 5));
@@ -425,16 +441,17 @@ static int ending(void)
 static int floods(void)
 {
     double end;
-    int served, made = 1, rounds = 0;
+    int served, made = 1, alone = 0, rounds = 0;
     s = screen();
     HOLDS((served = comes()) >= 0 && is_served(served));
+    for (end = seconds() + 1; seconds() < end; alone++) HOLDS(sees(served, LOOP));
     action = RFB_CLIENT_REFUSE;
     for (end = seconds() + 1; seconds() < end; rounds++) {
         for (; made < came + 200; made++) close(connects());
-        HOLDS(sees(served, 1));
+        HOLDS(sees(served, LOOP));
     }
-    if (rounds < 100 || came < 100) printf("%d updates, %d connections\n", rounds, came);
-    HOLDS(rounds >= 100 && came >= 100);
+    if (rounds < alone / 4 || came < 80) printf("%d updates, and %d alone; %d connections\n", rounds, alone, came);
+    HOLDS(rounds >= alone / 4 && came >= 80);
     HOLDS(loops_until(&came, made));
     close(served);
     HOLDS(loops_until(&gone, made));
@@ -456,7 +473,7 @@ static int no_room(void)
     while (count < 256 && (held[count] = dup(0)) >= 0) count++;
     before = ready_count;
     loops_for(0.5);
-    HOLDS(count < 256 && came == 1 && ready_count - before < 30 && sees(served, 1));
+    HOLDS(count < 256 && came == 1 && ready_count - before < 30 && sees(served, LOOP));
     while (count > 0) close(held[--count]);
     HOLDS(setrlimit(RLIMIT_NOFILE, &limit) == 0);
     if (!waits(fd)) close(fd), fd = connects(); /* as valgrind takes it, and closes it */
@@ -498,12 +515,59 @@ static int full(void)
     return setrlimit(RLIMIT_NOFILE, &limit);
 }
 
-/* The same in another thread. */
+static int events_until(const int *count, int wanted)
+{
+    double end = seconds() + patience;
+    while (*count != wanted && seconds() < end) rfbProcessEvents(s, 1000);
+    return *count == wanted;
+}
+
+/* One that is served, by turns of rfbProcessEvents, or -1. */
+static int is_shown(void)
+{
+    int fd = connects();
+    return fd >= 0 && says(fd, OPENING, 14) && is_greeted(fd, EVENTS) && sees(fd, EVENTS) ? fd : -1;
+}
+
+/* Hooks part with their own client, or with another, also where an iterator stands at it: each is told once, and nobody else goes. */
+static int hooks(void)
+{
+    rfbClientIteratorPtr all;
+    rfbClientPtr first_client;
+    int first, second, third, k;
+    s = screen();
+    for (k = 0; k < 2; k++) {
+        hook_does = k ? CLOSES : REFUSES;
+        action = k ? RFB_CLIENT_ACCEPT : RFB_CLIENT_ON_HOLD;
+        HOLDS((first = connects()) >= 0 && events_until(&gone, k + 1) && ends_in(first, EVENTS) && s->clientHead == NULL);
+    }
+    hook_does = NOTHING;
+    HOLDS((first = is_shown()) >= 0);
+    first_client = s->clientHead;
+    HOLDS((second = is_shown()) >= 0 && (all = rfbGetClientIterator(s)) != NULL && rfbClientIteratorNext(all) == s->clientHead);
+    hook_does = PARTS;
+    HOLDS(says(second, A_KEY A_KEY, 16) && events_until(&gone, 3) && ends_in(second, EVENTS));
+    IS(keys, 1);
+    hook_does = NOTHING;
+    HOLDS(rfbClientIteratorNext(all) == first_client && rfbClientIteratorNext(all) == NULL && s->clientHead == first_client);
+    rfbReleaseClientIterator(all);
+    HOLDS((second = is_shown()) >= 0 && (third = is_shown()) >= 0);
+    other = s->clientHead->next;
+    hook_does = PARTS_WITH_OTHER;
+    close(third);
+    HOLDS(events_until(&gone, 5) && ends_in(second, EVENTS) && sees(first, EVENTS) && s->clientHead == first_client);
+    close(first);
+    HOLDS(events_until(&gone, 6));
+    rfbScreenCleanup(s);
+    return 0;
+}
+
+/* ---- and in another thread ---- */
 
 static int sleeps_until(const int *count, int wanted)
 {
     double end = seconds() + patience;
-    while (*(const volatile int *)count != wanted && seconds() < end) round_of(0);
+    while (*(const volatile int *)count != wanted && seconds() < end) round_of(THREAD);
     return *(const volatile int *)count == wanted;
 }
 
@@ -528,14 +592,14 @@ static int background(void)
         if (k == 1) rfbStartOnHoldClient(newest());
         if (k == 2) rfbRefuseOnHoldClient(newest());
         if (k == 3) close(fd[k]);
-        if (k < 2) HOLDS(is_greeted(fd[k], 0) && sees(fd[k], 0));
-        if (k == 2) HOLDS(ends_in(fd[k], 0));
+        if (k < 2) HOLDS(is_greeted(fd[k], THREAD) && sees(fd[k], THREAD));
+        if (k == 2) HOLDS(ends_in(fd[k], THREAD));
         if (k == 2 || k == 3) HOLDS(sleeps_until(&gone, k - 1));
     }
     close(fd[0]);
-    HOLDS(sleeps_until(&gone, 3) && sees(fd[1], 0) && waits(fd[4]));
+    HOLDS(sleeps_until(&gone, 3) && sees(fd[1], THREAD) && waits(fd[4]));
     rfbShutdownServer(s, TRUE);
-    HOLDS(gone == 5 && !rfbIsActive(s) && ends_in(fd[1], 0) && ends_in(fd[4], 0));
+    HOLDS(gone == 5 && !rfbIsActive(s) && ends_in(fd[1], THREAD) && ends_in(fd[4], THREAD));
     rfbScreenCleanup(s);
     return 0;
 }
@@ -558,7 +622,7 @@ int main(int argc, char **argv)
     (void)argv;
     if (argc > 1) patience = 3;
     rfbErr = err;
-    DO(admission() || refusals() || records() || ending() || floods() || no_room() || full() || background() || passwords());
+    DO(admission() || refusals() || records() || ending() || floods() || no_room() || full() || hooks() || background() || passwords());
     puts("rfb_drive ok");
     return 0;
 }
