@@ -1226,9 +1226,11 @@ static void say_refusal(rfbScreenInfoPtr s, int32_t code, int error)
 static int32_t make_server(rfbScreenInfoPtr s)
 {
     struct rfbCompat *c = s->compat;
-    vnc_server *server = (vnc_server *)malloc(vnc_server_size());
+    const rfbBool isOther = truth(vnc_server_abi() != VNC_SERVER_ABI);
+    vnc_server *server =
+        isOther ? NULL : (vnc_server *)malloc(vnc_server_size());
+    int32_t code = isOther ? VNC_ERROR_VERSION : VNC_ERROR_NO_MEMORY;
     char name[256] = "";
-    int32_t code = VNC_ERROR_NO_MEMORY;
     errno = 0;
     if (s->desktopName) strncpy(name, s->desktopName, sizeof name - 1);
     if (server) {

@@ -197,7 +197,8 @@ typedef struct _rfbClientRec {
         RFB_SHUTDOWN
     } state;
     /* Set where newClientHook answers so. The program sets it to FALSE, and the
-     * next turn begins to serve the client; who is served can't be put on
+     * next turn begins to serve the client; another thread than that which
+     * takes the turns calls rfbStartOnHoldClient. Who is served can't be put on
      * hold. */
     rfbBool onHold;
     rfbBool viewOnly; /* its inputs go to no hook */
@@ -262,7 +263,7 @@ rfbBool rfbIsActive(rfbScreenInfoPtr s);
  * went. But FALSE where it told an input: there are programs that look for
  * their inputs after FALSE alone.
  * A program that waits by itself takes a turn of 0 once listenSock can be read,
- * and deferUpdateTime after it drew. That is one descriptor of the library's
+ * and deferUpdateTime after it drew. That is one descriptor of the layer's
  * for all sockets, on which no accept, read or close is to be called: a select
  * loop sees it alone, and no client's. */
 rfbBool rfbProcessEvents(rfbScreenInfoPtr s, long usec);

@@ -1,7 +1,7 @@
-/* krfb_main.cpp PORT: krfb's server for who was invited, without a password, a picture and hooks: its own files do the rest. A line on stdout
- * says what happens: "serves", "asks HOST" where its user is asked of a viewer, "key N", "pointer N", "came", "went", each with how many there
- * were. Lines on stdin are what its user does: "accept" and "refuse" answer the dialog, "always" answers each that comes, "stop" and "start"
- * do what the button does, and "quit" ends it. */
+/* krfb_main.cpp PORT [password]: krfb's server for who was invited, without a password unless the word is there, a picture and hooks: its own
+ * files do the rest. It ends with 2 where it isn't served. A line on stdout says what happens: "serves", "asks HOST" where its user is asked
+ * of a viewer, and "key", "pointer", "came" and "went", each with how many there were. Lines on stdin are what its user does: "accept" and
+ * "refuse" answer the dialog, "always" accepts each that comes, "stop" and "start" do what the button does, and "quit" ends it. */
 #include "connectiondialog.h"
 #include "events.h"
 #include "eventsplugin.h"
@@ -121,7 +121,7 @@ int main(int argc, char **argv)
     app.setQuitOnLastWindowClosed(false);
     KrfbConfig::port() = argc > 1 ? atoi(argv[1]) : 5900;
     InvitationsRfbServer::init();
-    InvitationsRfbServer::instance->setPasswordRequired(false);
+    InvitationsRfbServer::instance->setPasswordRequired(argc > 2);
     QObject::connect(RfbServerManager::instance(), &RfbServerManager::clientConnected, [&] { tell("came", ++came); });
     QObject::connect(RfbServerManager::instance(), &RfbServerManager::clientDisconnected, [&] { tell("went", ++went); });
     QObject::connect(&timer, &QTimer::timeout, [&] { look(always); });

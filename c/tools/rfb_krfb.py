@@ -250,6 +250,15 @@ def restarts(program, viewer):
     again.socket.close()
 
 
+def refuses():
+    """Where krfb wants a password nobody is served."""
+    port = free_port()
+    environment = dict(os.environ, QT_QPA_PLATFORM="offscreen")
+    done = subprocess.run([f"{ROOM}/ours", str(port), "password"], check=False, capture_output=True, text=True, env=environment, timeout=20)
+    if done.returncode != 2 or "authPasswdData is set" not in done.stderr:
+        raise OSError(f"with a password it ends with {done.returncode}")
+
+
 def main():
     found = flags_of_qt()
     if not found:
@@ -257,9 +266,10 @@ def main():
         sys.exit(77)
     count = build("ours", *found, layer(PREFIX, ROOM))
     ours, told = judge("ours")
-    print(f"{count} of its files compile; {ours.width} by {ours.height}, {ours.updates} updates, {told} of {ours.sent} inputs; viewers wait until they are admitted")
+    print(f"{count} of its files compile; {ours.width} by {ours.height}, {ours.updates} updates, {told} of {ours.sent} inputs")
     if told != ours.sent or ours.updates < 2:
         raise OSError("that isn't as it should be")
+    refuses()
     flags = flags_of_real()
     if not flags:
         print("left out: LibVNCServer, which is not installed")
