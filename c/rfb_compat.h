@@ -21,7 +21,7 @@
  *             for another thread that calls. One thread takes the turns. A
  *             rfbClientPtr lasts until its clientGoneHook has returned.
  *             frameBuffer is read with no lock of the program's.
- * Machines    Those with pthreads whose lowest byte comes first.
+ * Machines    Linux, where the lowest byte comes first.
  */
 #ifndef RFB_COMPAT_H
 #define RFB_COMPAT_H
@@ -300,9 +300,10 @@ void rfbSendServerCutText(rfbScreenInfoPtr s, char *text, int len);
 /* Closes a client in the next turn; its inputs are told no more. */
 void rfbCloseClient(rfbClientPtr cl);
 
-/* Has a client served that newClientHook had on hold; or closes it, which is
- * what rfbClientConnectionGone does. */
+/* Has a client served that newClientHook had on hold. */
 void rfbStartOnHoldClient(rfbClientPtr cl);
+
+/* Does what rfbClientConnectionGone does. */
 void rfbRefuseOnHoldClient(rfbClientPtr cl);
 
 /* A program may wait for sockets itself, and not by rfbProcessEvents. Each of
