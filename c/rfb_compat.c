@@ -41,21 +41,16 @@
  */
 #define _POSIX_C_SOURCE 200809L
 #include "rfb_compat.h"
-#include "rfb_compat_listen.h"
+#include "rfb_compat_parts.h"
 #include "vnc_server.h"
 #include <errno.h>
 #include <fcntl.h>
 #include <poll.h>
 #include <pthread.h>
-#include <stdarg.h>
-#include <stddef.h>
 
 enum {
     /* How many clients there may be: a further one waits for another to go. */
     MOST_VIEWERS = 1000,
-    /* The library's pictures have no more. */
-    MOST_COLUMNS = 8192,
-    MOST_ROWS = 8192,
     /* With more marks than this they are joined into one around all. */
     MOST_MARKS = 32,
     /* In milliseconds: a wait that has no end is begun again behind this. */
@@ -125,38 +120,14 @@ static void unlock(rfbScreenInfoPtr s)
     pthread_mutex_unlock(&s->compat->lock);
 }
 
-static int larger(int a, int b) { return a > b ? a : b; }
-
-static int smaller(int a, int b) { return a < b ? a : b; }
-
 /* TRUE is -1, as in LibVNCServer. */
 static rfbBool truth(int is) { return is ? TRUE : FALSE; }
-
-static sraRect rect_of(int x1, int y1, int x2, int y2)
-{
-    const sraRect r = {x1, y1, x2, y2};
-    return r;
-}
 
 /* Ends the server with this turn, for good. */
 static void fail(rfbScreenInfoPtr s)
 {
     s->compat->isEnding = s->compat->hasFailed = TRUE;
 }
-
-static int saysNothing;
-
-static void say(const char *format, ...)
-{
-    va_list args;
-    va_start(args, format);
-    if (!saysNothing) vfprintf(stderr, format, args);
-    va_end(args);
-}
-
-rfbLogProc rfbLog = say, rfbErr = say;
-
-void rfbLogEnable(int enabled) { saysNothing = !enabled; }
 
 /* ---- what of frameBuffer is taken; the lock is held ---- */
 
@@ -342,59 +313,6 @@ void rfbMarkRegionAsModified(rfbScreenInfoPtr s, sraRegionPtr r)
 
 /* ---- copies ---- */
 
-/* What of a rectangle lies on the screen, and comes from there. */
-static sraRect copied(rfbScreenInfoPtr s, sraRect r, int dx, int dy)
-{
-    const sraRect none = {0, 0, 0, 0};
-    const sraRect on = rect_of(larger(r.x1, larger(dx, 0)),
-                               larger(r.y1, larger(dy, 0)),
-                               smaller(r.x2, s->width + smaller(dx, 0)),
-                               smaller(r.y2, s->height + smaller(dy, 0)));
-    return on.x1 < on.x2 && on.y1 < on.y2 ? on : none;
-}
-
-/* Moves what comes to a row of frameBuffer from the row `from`. */
-static void copy_row(rfbScreenInfoPtr s, const sraRect *to, size_t count,
-                     int dx, int dy, int y, const char *from)
-{
-    const ptrdiff_t bytes = s->serverFormat.bitsPerPixel / 8;
-    char *row = s->frameBuffer + y * (ptrdiff_t)s->paddedWidthInBytes;
-    for (size_t k = 0; k < count; k++) {
-        const sraRect r = copied(s, to[k], dx, dy);
-        if (y >= r.y1 && y < r.y2)
-            memmove(row + r.x1 * bytes, from + (r.x1 - dx) * bytes,
-                    (size_t)((r.x2 - r.x1) * bytes));
-    }
-}
-
-/* Moves frameBuffer, in such an order of rows that none is read that was
- * written; of several rectangles each row is kept aside first. */
-static void copy_pixels(rfbScreenInfoPtr s, const sraRect *to, size_t count,
-                        int dx, int dy)
-{
-    const ptrdiff_t bytes = s->serverFormat.bitsPerPixel / 8;
-    const ptrdiff_t pitch = s->paddedWidthInBytes;
-    const sraRect one =
-        copied(s, count == 1 ? *to : rect_of(0, 0, 0, 0), dx, dy);
-    char aside[4 * MOST_COLUMNS];
-    if (one.x2 - one.x1 == s->width && pitch == s->width * bytes) {
-        /* whole rows */
-        memmove(s->frameBuffer + one.y1 * pitch,
-                s->frameBuffer + (one.y1 - dy) * pitch,
-                (size_t)((one.y2 - one.y1) * pitch));
-        return;
-    }
-    for (int i = larger(dy, 0); i < s->height + smaller(dy, 0); i++) {
-        const int y = dy > 0 ? s->height - 1 - i + dy : i;
-        const char *from = s->frameBuffer + (y - dy) * pitch;
-        if (count > 1) {
-            memcpy(aside, from, (size_t)(s->width * bytes));
-            from = aside;
-        }
-        copy_row(s, to, count, dx, dy, y, from);
-    }
-}
-
 /* Copies one rectangle of the picture, or marks where it came to. */
 static void copy_picture(rfbScreenInfoPtr s, sraRect r, int dx, int dy,
                          rfbBool isStale)
@@ -416,11 +334,11 @@ static void copy(rfbScreenInfoPtr s, const sraRect *to, size_t count, int dx,
     lock(s);
     if (!isMoved) {
         take_marks(s);
-        copy_pixels(s, to, count, dx, dy);
+        rfbCopyPixels(s, to, count, dx, dy);
     }
     isStale = truth(count > 1 || s->compat->marks > 0 || s->isWritten);
     for (size_t k = 0; k < count; k++)
-        copy_picture(s, copied(s, to[k], dx, dy), dx, dy, isStale);
+        copy_picture(s, rfbCopied(s, to[k], dx, dy), dx, dy, isStale);
     unlock(s);
 }
 
@@ -1147,28 +1065,6 @@ void rfbRunEventLoop(rfbScreenInfoPtr s, long usec, rfbBool runInBackground)
 
 /* ---- beginning and end ---- */
 
-static rfbBool set_format(rfbScreenInfoPtr s, int width, int height, int bits,
-                          int samples, int bytes)
-{
-    const uint16_t max = (uint16_t)((1 << (bits & 15)) - 1);
-    const rfbPixelFormat sampled = {
-        (uint8_t)(8 * bytes), (uint8_t)(bits * samples), 0,   1,
-        max,                  max,                       max, 0,
-        (uint8_t)bits,        (uint8_t)(2 * bits)};
-    const rfbPixelFormat of_a_byte = {8, 8, 0, 1, 7, 7, 3, 0, 3, 6};
-    if (width < 1 || width > MOST_COLUMNS) return FALSE;
-    if (height < 1 || height > MOST_ROWS) return FALSE;
-    if (bits < 1 || bits > 10 || bytes < 1 || bytes > 4) return FALSE;
-    s->width = width;
-    s->height = height;
-    s->depth = bits * samples;
-    s->bitsPerPixel = 8 * bytes;
-    s->paddedWidthInBytes = width * bytes;
-    s->sizeInBytes = width * bytes * height;
-    s->serverFormat = bytes == 1 ? of_a_byte : sampled;
-    return TRUE;
-}
-
 static void make_lock(pthread_mutex_t *made)
 {
     pthread_mutexattr_t recursive;
@@ -1196,7 +1092,7 @@ rfbScreenInfoPtr rfbGetScreen(int *argc, char **argv, int width, int height,
     rfbScreenInfoPtr s =
         (rfbScreenInfoPtr)calloc(1, sizeof *s + sizeof *s->compat);
     if (!s) return NULL;
-    if (!set_format(s, width, height, bitsPerSample, samplesPerPixel,
+    if (!rfbSetFormat(s, width, height, bitsPerSample, samplesPerPixel,
                     bytesPerPixel)) {
         free(s);
         return NULL;
@@ -1320,7 +1216,7 @@ void rfbNewFramebuffer(rfbScreenInfoPtr s, char *frameBuffer, int width,
     const rfbBool isResized = truth(s->width != width || s->height != height);
     int32_t code = 0;
     lock(s);
-    if (!set_format(s, width, height, bitsPerSample, samplesPerPixel,
+    if (!rfbSetFormat(s, width, height, bitsPerSample, samplesPerPixel,
                     bytesPerPixel))
         code = VNC_ERROR_BAD_FORMAT;
     else if (c->server && isResized)

@@ -11,7 +11,7 @@
  *   connections on hold       for their end alone
  */
 #define _POSIX_C_SOURCE 200809L
-#include "rfb_compat_listen.h"
+#include "rfb_compat_parts.h"
 #include <errno.h>
 #include <fcntl.h>
 #include <netinet/tcp.h>

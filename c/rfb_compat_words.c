@@ -1,7 +1,24 @@
-/* rfb_compat_words.c: the words of rfb_compat.h that a program takes out of its
- * arguments. */
+/* rfb_compat_words.c: what is said by rfb_compat.h, and the words that a
+ * program takes out of its arguments. */
 #include "rfb_compat.h"
+#include <stdarg.h>
 #include <stddef.h>
+
+static int saysNothing;
+
+static void say(const char *format, ...)
+{
+    va_list args;
+    va_start(args, format);
+    if (!saysNothing) vfprintf(stderr, format, args);
+    va_end(args);
+}
+
+rfbLogProc rfbLog = say, rfbErr = say;
+
+void rfbLogEnable(int enabled) { saysNothing = !enabled; }
+
+/* ---- arguments ---- */
 
 /* Takes so many words out of the list. */
 static void take_out(int *argc, char **argv, int at, int count)

@@ -1,14 +1,41 @@
-/* rfb_compat_listen.h: what rfb_compat.c has of rfb_compat_listen.c: where a
- * screen listens, and what it waits for. Programs include rfb_compat.h alone.
- */
-#ifndef RFB_COMPAT_LISTEN_H
-#define RFB_COMPAT_LISTEN_H
+/* rfb_compat_parts.h: what rfb_compat.c has of the files beside it. Programs
+ * include rfb_compat.h alone. */
+#ifndef RFB_COMPAT_PARTS_H
+#define RFB_COMPAT_PARTS_H
 
 #include "rfb_compat.h"
 
 #ifdef __cplusplus
 extern "C" {
 #endif
+
+static inline int larger(int a, int b) { return a > b ? a : b; }
+
+static inline int smaller(int a, int b) { return a < b ? a : b; }
+
+static inline sraRect rect_of(int x1, int y1, int x2, int y2)
+{
+    const sraRect r = {x1, y1, x2, y2};
+    return r;
+}
+
+/* ---- frameBuffer: rfb_compat_draw.c ---- */
+
+/* The library's pictures have no more. */
+enum { RFB_MOST_COLUMNS = 8192, RFB_MOST_ROWS = 8192 };
+
+/* Gives the screen a size and a format: FALSE where it can't have them. */
+rfbBool rfbSetFormat(rfbScreenInfoPtr s, int width, int height, int bits,
+                     int samples, int bytes);
+
+/* What of a rectangle lies on the screen, and comes from there. */
+sraRect rfbCopied(rfbScreenInfoPtr s, sraRect r, int dx, int dy);
+
+/* Moves what comes to so many rectangles of frameBuffer. */
+void rfbCopyPixels(rfbScreenInfoPtr s, const sraRect *to, size_t count, int dx,
+                   int dy);
+
+/* ---- who comes: rfb_compat_listen.c ---- */
 
 /* Where connections come in. A descriptor that isn't there is -1. */
 struct rfbDoor {
