@@ -32,7 +32,7 @@ class Picture : public FrameBuffer
 public:
     Picture()
     {
-        fb = new char[WIDTH * HEIGHT * 4];
+        fb = static_cast<char *>(operator new(WIDTH * HEIGHT * 4)); /* as krfb deletes it as one byte */
         for (int k = 0; k < WIDTH * HEIGHT * 4; k++) fb[k] = k % 4 == 3 ? 0 : char(k / 4 % WIDTH + k % 4 * (k / 4 / WIDTH));
     }
     int width() override { return WIDTH; }
