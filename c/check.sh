@@ -2,7 +2,7 @@
 # check.sh: compiles the C examples against vnc_screen and vnc_server, and LibVNCServer's names (rfb_compat) with programs that use them,
 # and runs them, plain, under valgrind, with the sanitizers for the C that is ours, and with each allocation refused, where these are
 # installed. Programs of others run over LibVNCServer's names where a folder of their source is named: LIBVNCSERVER_SOURCE (its examples),
-# LIBNSFB_SOURCE (its surface for VNC) and LCD4LINUX_SOURCE (its driver). The archives that c/archives.sh makes are wanted, or with UNPROVED
+# LIBNSFB_SOURCE (its surface for VNC), LCD4LINUX_SOURCE (its driver) and KRFB_SOURCE (what of it speaks to viewers). The archives that c/archives.sh makes are wanted, or with UNPROVED
 # a folder in which c/unproved.sh left some that nobody proved. It prints a line for each thing that it tried or left out, and why; the
 # status is 0 where nothing failed.
 set -u
@@ -104,7 +104,7 @@ for name in vnc_screen vnc_server; do try "$name.h declares what the library exp
 library_of() { grep -qE 'vnc_server.h|rfb_compat.h' "$1" && echo vnc_server || echo vnc_screen; }
 sources_of() { # SOURCE: with what is compiled with it
     echo "$1"
-    if grep -q rfb_compat.h "$1"; then echo "-I$here $here/rfb_compat.c $here/rfb_compat_draw.c"; fi
+    if grep -q rfb_compat.h "$1"; then echo "-I$here" "$here"/rfb_compat*.c; fi
 }
 compile() { # SOURCE OUT FLAGS..
     local source=$1 out=$2
@@ -154,7 +154,7 @@ run() { # NAME PROGRAM HOW..: each example, as it is to be run
     shift 2
     case $name in
     play) "$@" "$program" | cmp - "$here/../crates/vncdemo/stdout" ;;
-    edges | server_edges | rfb_edges | screen_calls | server_calls | server_adopt | server_viewers | server_events | server_limits | server_record | server_web) says_ok "$name" "$@" "$program" ;;
+    edges | server_edges | rfb_edges | rfb_drive | screen_calls | server_calls | server_adopt | server_viewers | server_events | server_limits | server_record | server_web) says_ok "$name" "$@" "$program" ;;
     serve) looked_at "640 by 480, . colours, demo" "$@" "$program" PORT 3 ;;
     threads) looked_at "640 by 480, [23] colours, threads" "$@" "$program" PORT 3 ;;
     clock) looked_at "172 by 44, 3 colours, clock" "$@" "$program" PORT 10 ;;
@@ -176,7 +176,7 @@ if ! { $CC $sanitize -o "$room/none" "$room/none.c" && "$room/none"; } 2>/dev/nu
     sanitize=
     left+=("sanitizers: not installed")
 fi
-for source in "$here"/examples/*.c "$here"/tools/{rfb_edges,screen_calls,server_calls,server_adopt,server_viewers,server_events,server_limits,server_record,server_web}.c; do
+for source in "$here"/examples/*.c "$here"/tools/{rfb_edges,rfb_drive,screen_calls,server_calls,server_adopt,server_viewers,server_events,server_limits,server_record,server_web}.c; do
     name=$(basename "$source" .c)
     for standard in c99 c11 c++17; do
         case $standard in c++*) have "${CXX:-c++}" || continue ;; esac
@@ -287,7 +287,7 @@ else
 fi
 
 # ---- programs of others over LibVNCServer's names, where a folder of their source is named: LIBVNCSERVER_SOURCE, its examples;
-# LIBNSFB_SOURCE, its surface for VNC; LCD4LINUX_SOURCE, its driver for VNC
+# LIBNSFB_SOURCE, its surface for VNC; LCD4LINUX_SOURCE, its driver for VNC; KRFB_SOURCE, what of it speaks to viewers
 pkg-config --exists libvncserver || left+=("programs of others beside LibVNCServer: it is not installed")
 rfb_examples() { python3 "$here/tools/rfb_examples.py" "$LIBVNCSERVER_SOURCE" "$room/prefix" "$room/rfb_examples" "$@"; }
 if [ -n "${LIBVNCSERVER_SOURCE:-}" ]; then
@@ -309,6 +309,14 @@ rfb_program() { # NAME VARIABLE
 }
 rfb_program nsfb LIBNSFB_SOURCE
 rfb_program lcd4linux LCD4LINUX_SOURCE
+if [ -n "${KRFB_SOURCE:-}" ]; then
+    mkdir "$room/rfb_krfb"
+    rfb_krfb() { python3 "$here/tools/rfb_krfb.py" "$KRFB_SOURCE" "$room/prefix" "$room/rfb_krfb"; }
+    krfb_or_no_qt() { rfb_krfb || [ $? = 77 ]; }
+    try "krfb over LibVNCServer's names, where Qt is" krfb_or_no_qt && sed 's/^/        /' "$room/log"
+else
+    left+=("krfb: KRFB_SOURCE names no folder of its source")
+fi
 
 # ---- memory that is refused: whichever call of malloc, calloc or realloc it is, the program goes on to its end, or ends by itself
 refused() { # PROGRAM FIRST LAST ARGUMENT..
@@ -321,7 +329,7 @@ refused() { # PROGRAM FIRST LAST ARGUMENT..
 if $CC -Wall -Wextra -Werror -shared -fPIC -o "$room/refuse.so" "$here/tools/refuse.c" -ldl; then
     for name in play edges server_edges rfb_edges screen_calls; do try "$name: each of its first 150 allocations is refused" refused "$name" 1 150; done
     try "rfb_edges, its second half first: each of its first 150 allocations is refused" refused rfb_edges 1 150 second
-    for name in server_calls server_adopt server_viewers server_events server_limits server_record server_web; do
+    for name in rfb_drive server_calls server_adopt server_viewers server_events server_limits server_record server_web; do
         try "$name: each of its first 150 allocations is refused" refused "$name" 1 150 soon
     done
     for name in clock sketch own_pixels own_loop; do try "$name: each of its first 40 allocations is refused" refused "$name" 1 40 0 1; done

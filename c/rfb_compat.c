@@ -16,33 +16,41 @@
  *             take_marks            what is marked: frameBuffer to picture
  *             close_some            isClosing to isLetGo
  *             vnc_server_process_events
- *             come, isGone          by what it says of viewers; newClientHook
+ *             note_events           isGone, by what it says of viewers
  *             share                 a client that is open now
  *             hear                  inputs: library to ring
+ *             accept_some           come: newClientHook
+ *             admit_some            who isn't on hold: its socket to the server
  *             tell_next             inputs: ring to kbdAddEvent ..
- *        -> settle                  isGone to clientGoneHook, and freed;
- *                                   the server, where it is to end, too
+ *        -> settle                  isGone to part, unless the program drives
+ *                                   sockets itself; the server, where it is to
+ *                                   end, too
  *
  *   a screen   RFB_SOCKET_INIT -- rfbInitServer --> RFB_SOCKET_READY
  *                -- refused, isEnding or rfbShutdownServer --> .._SHUTDOWN
- *   a client   made by come -> isOpen -> hasAsked
- *                -- isClosing -> isLetGo --> isGone -> freed by settle
+ *                -- rfbInitServer, unless it hasFailed --> RFB_SOCKET_READY
+ *   a client   made by come -> (onHold) -> number, by admit -> isOpen
+ *                -> hasAsked -- isClosing -> isLetGo --> isGone
+ *                -> isParted, by part: clientGoneHook -> freed
+ *
+ * A program drives sockets itself by rfbProcessNewConnection and so on. A turn
+ * that these take parts with nobody: that is rfbClientConnectionGone's. Of who
+ * comes in such a turn the layer keeps a descriptor, and the server has another
+ * of the same socket: so sock stays what it is until a call for that very
+ * client says that it is gone.
  */
 #define _POSIX_C_SOURCE 200809L
 #include "rfb_compat.h"
+#include "rfb_compat_parts.h"
 #include "vnc_server.h"
 #include <errno.h>
+#include <fcntl.h>
 #include <poll.h>
 #include <pthread.h>
-#include <stdarg.h>
-#include <stddef.h>
 
 enum {
     /* How many clients there may be: a further one waits for another to go. */
     MOST_VIEWERS = 1000,
-    /* The library's pictures have no more. */
-    MOST_COLUMNS = 8192,
-    MOST_ROWS = 8192,
     /* With more marks than this they are joined into one around all. */
     MOST_MARKS = 32,
     /* In milliseconds: a wait that has no end is begun again behind this. */
@@ -51,14 +59,27 @@ enum {
     MANY = 1024,
     /* So often is one that moves painted without being compared. */
     UNCOMPARED = 15,
-    /* Where autoPort looks for a port. */
+    /* The port, unless the program has another. */
     FIRST_PORT = 5900,
-    LAST_PORT = 5999,
+    /* How many are accepted in a turn while nobody is served, at most. */
+    MOST_ACCEPTED = 32,
+    /* How many descriptors a turn finds ready, at most. */
+    MOST_READY = 16,
+    /* In milliseconds: so often a turn that waits looks whether a client is on
+     * hold still, as a program sets that with no call. */
+    HOLD_LOOK = 20,
     /* How many inputs are held here, and with how many the library takes no
      * turn, so that viewers' sockets hold the others back. */
     MOST_HEARD = 256,
     FEW_HEARD = 64
 };
+
+/* How far a client is: C++ has these names in the record. */
+#ifdef __cplusplus
+#define STATE(name) rfbClientRec::name
+#else
+#define STATE(name) name
+#endif
 
 /* An input that hooks are to be told, and a text's bytes. */
 struct heard {
@@ -73,17 +94,20 @@ struct rfbCompat {
     pthread_t looper; /* the thread of rfbRunEventLoop, where hasLooper */
     rfbBool hasLooper;
     rfbBool isEnding;
+    rfbBool hasFailed; /* it ended by no wish of the program's */
+    struct rfbDoor door;
+    int clients;   /* how many there are */
+    uint64_t came; /* how many have come */
+    uint64_t went; /* how many were parted with */
     int depth;   /* turns that run, as a hook may take one */
     int waiting; /* turns that wait */
     long usec;   /* of rfbRunEventLoop */
     sraRect marked[MOST_MARKS];
     int marks;
-    uint64_t last;       /* the number of the viewer that came last */
     int64_t asked;       /* how often viewers asked for all */
+    int64_t lost;        /* how much of what viewers did was lost */
     sraRect dense;       /* what last differed nearly everywhere */
     int uncompared;      /* so many times more it isn't compared */
-    const char *record;  /* the file of -record, or NULL */
-    const char *promise; /* the word that promises what isn't here, or NULL */
     struct heard heard[MOST_HEARD]; /* a ring; others wait in the library */
     int first;                      /* where the ring begins */
     int inputs;                     /* how many are in it */
@@ -96,32 +120,14 @@ static void unlock(rfbScreenInfoPtr s)
     pthread_mutex_unlock(&s->compat->lock);
 }
 
-static int larger(int a, int b) { return a > b ? a : b; }
-
-static int smaller(int a, int b) { return a < b ? a : b; }
-
 /* TRUE is -1, as in LibVNCServer. */
 static rfbBool truth(int is) { return is ? TRUE : FALSE; }
 
-static sraRect rect_of(int x1, int y1, int x2, int y2)
+/* Ends the server with this turn, for good. */
+static void fail(rfbScreenInfoPtr s)
 {
-    const sraRect r = {x1, y1, x2, y2};
-    return r;
+    s->compat->isEnding = s->compat->hasFailed = TRUE;
 }
-
-static int saysNothing;
-
-static void say(const char *format, ...)
-{
-    va_list args;
-    va_start(args, format);
-    if (!saysNothing) vfprintf(stderr, format, args);
-    va_end(args);
-}
-
-rfbLogProc rfbLog = say, rfbErr = say;
-
-void rfbLogEnable(int enabled) { saysNothing = !enabled; }
 
 /* ---- what of frameBuffer is taken; the lock is held ---- */
 
@@ -267,7 +273,7 @@ static void follow_size(rfbScreenInfoPtr s)
     if (code < 0) {
         rfbErr("a screen of %d by %d: the server ends: %s\n", s->width,
                s->height, vnc_code_text(code));
-        c->isEnding = TRUE;
+        fail(s);
     }
     for (rfbClientPtr cl = s->clientHead; cl; cl = cl->next)
         cl->newFBSizePending = FALSE;
@@ -307,59 +313,6 @@ void rfbMarkRegionAsModified(rfbScreenInfoPtr s, sraRegionPtr r)
 
 /* ---- copies ---- */
 
-/* What of a rectangle lies on the screen, and comes from there. */
-static sraRect copied(rfbScreenInfoPtr s, sraRect r, int dx, int dy)
-{
-    const sraRect none = {0, 0, 0, 0};
-    const sraRect on = rect_of(larger(r.x1, larger(dx, 0)),
-                               larger(r.y1, larger(dy, 0)),
-                               smaller(r.x2, s->width + smaller(dx, 0)),
-                               smaller(r.y2, s->height + smaller(dy, 0)));
-    return on.x1 < on.x2 && on.y1 < on.y2 ? on : none;
-}
-
-/* Moves what comes to a row of frameBuffer from the row `from`. */
-static void copy_row(rfbScreenInfoPtr s, const sraRect *to, size_t count,
-                     int dx, int dy, int y, const char *from)
-{
-    const ptrdiff_t bytes = s->serverFormat.bitsPerPixel / 8;
-    char *row = s->frameBuffer + y * (ptrdiff_t)s->paddedWidthInBytes;
-    for (size_t k = 0; k < count; k++) {
-        const sraRect r = copied(s, to[k], dx, dy);
-        if (y >= r.y1 && y < r.y2)
-            memmove(row + r.x1 * bytes, from + (r.x1 - dx) * bytes,
-                    (size_t)((r.x2 - r.x1) * bytes));
-    }
-}
-
-/* Moves frameBuffer, in such an order of rows that none is read that was
- * written; of several rectangles each row is kept aside first. */
-static void copy_pixels(rfbScreenInfoPtr s, const sraRect *to, size_t count,
-                        int dx, int dy)
-{
-    const ptrdiff_t bytes = s->serverFormat.bitsPerPixel / 8;
-    const ptrdiff_t pitch = s->paddedWidthInBytes;
-    const sraRect one =
-        copied(s, count == 1 ? *to : rect_of(0, 0, 0, 0), dx, dy);
-    char aside[4 * MOST_COLUMNS];
-    if (one.x2 - one.x1 == s->width && pitch == s->width * bytes) {
-        /* whole rows */
-        memmove(s->frameBuffer + one.y1 * pitch,
-                s->frameBuffer + (one.y1 - dy) * pitch,
-                (size_t)((one.y2 - one.y1) * pitch));
-        return;
-    }
-    for (int i = larger(dy, 0); i < s->height + smaller(dy, 0); i++) {
-        const int y = dy > 0 ? s->height - 1 - i + dy : i;
-        const char *from = s->frameBuffer + (y - dy) * pitch;
-        if (count > 1) {
-            memcpy(aside, from, (size_t)(s->width * bytes));
-            from = aside;
-        }
-        copy_row(s, to, count, dx, dy, y, from);
-    }
-}
-
 /* Copies one rectangle of the picture, or marks where it came to. */
 static void copy_picture(rfbScreenInfoPtr s, sraRect r, int dx, int dy,
                          rfbBool isStale)
@@ -381,11 +334,11 @@ static void copy(rfbScreenInfoPtr s, const sraRect *to, size_t count, int dx,
     lock(s);
     if (!isMoved) {
         take_marks(s);
-        copy_pixels(s, to, count, dx, dy);
+        rfbCopyPixels(s, to, count, dx, dy);
     }
     isStale = truth(count > 1 || s->compat->marks > 0 || s->isWritten);
     for (size_t k = 0; k < count; k++)
-        copy_picture(s, copied(s, to[k], dx, dy), dx, dy, isStale);
+        copy_picture(s, rfbCopied(s, to[k], dx, dy), dx, dy, isStale);
     unlock(s);
 }
 
@@ -452,69 +405,195 @@ static rfbClientPtr client_of(rfbClientPtr cl, uint64_t number)
     return cl;
 }
 
-/* Lets a viewer go: whether one had the number. Where that is refused, nobody
- * is served any more. */
-static rfbBool let_go(rfbScreenInfoPtr s, uint64_t number)
+/* Lets a viewer go. Where that is refused, nobody is served any more. */
+static void let_go(rfbScreenInfoPtr s, uint64_t number)
 {
     const int32_t code = vnc_server_close_viewer(s->compat->server, number);
-    if (code < 0 && code != VNC_ERROR_NO_VIEWER) s->compat->isEnding = TRUE;
-    return truth(code == 0);
+    if (code < 0 && code != VNC_ERROR_NO_VIEWER) fail(s);
 }
 
-/* What stands before an address of IPv4 where IPv6 is served too. */
-#define MAPPED "::ffff:"
-
-static void find_host(rfbScreenInfoPtr s, rfbClientPtr cl)
+/* Notes that a client is gone. Where the layer has its connection that ends, so
+ * that a program which waits for it looks. */
+static void note_gone(rfbClientPtr cl)
 {
-    const int32_t code = vnc_server_viewer_address(
-        s->compat->server, cl->number, cl->address, sizeof cl->address);
-    cl->host = cl->address;
-    if (code < 0) strcpy(cl->address, "unknown");
-    if (!strncmp(cl->address, MAPPED, strlen(MAPPED)) &&
-        strchr(cl->address, '.'))
-        cl->host += strlen(MAPPED);
-}
-
-/* Takes a viewer in that came: asks the program, and takes frameBuffer, also
- * what was never marked. */
-static void come(rfbScreenInfoPtr s, uint64_t number)
-{
-    rfbClientPtr cl = NULL;
-    if (s->socketState == RFB_SOCKET_READY)
-        cl = (rfbClientPtr)calloc(1, sizeof *cl);
-    while (++s->compat->last < number)
-        let_go(s, s->compat->last); /* whose coming was lost */
-    if (!cl) {
-        let_go(s, number);
+    cl->isGone = TRUE;
+    if (cl->connection < 0) {
+        cl->sock = RFB_INVALID_SOCKET;
         return;
     }
+    rfbDoorForget(&cl->screen->compat->door, cl->connection);
+    shutdown(cl->connection, SHUT_RDWR);
+}
+
+/* Lets a client out of somebody's hands: it is freed with the last that held
+ * it, once it was parted with. */
+static void drop(rfbClientPtr cl)
+{
+    rfbScreenInfoPtr s = cl->screen;
+    rfbClientPtr *at = &s->clientHead;
+    if (--cl->holds > 0 || !cl->isParted) return;
+    while (*at && *at != cl) at = &(*at)->next;
+    if (*at) *at = cl->next;
+    s->compat->clients--;
+    free(cl);
+}
+
+/* Closes what the layer has of a client's sockets. */
+static void close_sockets(struct rfbDoor *door, rfbClientPtr cl)
+{
+    rfbDoorForget(door, cl->connection);
+    if (cl->connection >= 0) close(cl->connection);
+    if (cl->lookout >= 0) close(cl->lookout);
+    cl->connection = cl->lookout = cl->sock = RFB_INVALID_SOCKET;
+}
+
+/* Parts with a client that is gone: calls its hook, once, and frees it, or
+ * leaves that to who holds it. */
+static void part(rfbScreenInfoPtr s, rfbClientPtr cl)
+{
+    const rfbBool isFirst = truth(!cl->isParted);
+    cl->isGone = cl->isParted = TRUE;
+    close_sockets(&s->compat->door, cl);
+    if (s->pointerClient == cl) s->pointerClient = NULL;
+    cl->holds++;
+    if (isFirst) s->compat->went++;
+    if (isFirst && cl->clientGoneHook) cl->clientGoneHook(cl);
+    drop(cl);
+}
+
+/* Writes down where a client comes from. */
+static void name_host(rfbClientPtr cl, const struct sockaddr_storage *from)
+{
+    const void *at = from->ss_family == AF_INET6
+        ? (const void *)&((const struct sockaddr_in6 *)from)->sin6_addr
+        : (const void *)&((const struct sockaddr_in *)from)->sin_addr;
+    cl->host = cl->address;
+    if (!inet_ntop(from->ss_family, at, cl->address, sizeof cl->address))
+        strcpy(cl->address, "unknown");
+}
+
+/* A client of a connection that came: NULL where memory is refused. */
+static rfbClientPtr new_client(rfbScreenInfoPtr s, int connection,
+                               const struct sockaddr_storage *from,
+                               rfbBool isDriven)
+{
+    rfbClientPtr cl = (rfbClientPtr)calloc(1, sizeof *cl);
+    if (!cl) return NULL;
     cl->screen = s;
-    cl->number = number;
-    cl->sock = RFB_INVALID_SOCKET;
-    find_host(s, cl);
+    cl->isDriven = isDriven;
+    cl->connection = connection;
+    cl->lookout = isDriven ? rfbLookoutNew(connection) : RFB_INVALID_SOCKET;
+    cl->sock = cl->lookout >= 0 ? cl->lookout : connection;
+    cl->state = STATE(RFB_PROTOCOL_VERSION);
+    name_host(cl, from);
     cl->next = s->clientHead;
     s->clientHead = cl;
-    if (s->newClientHook && s->newClientHook(cl) != RFB_CLIENT_ACCEPT)
-        cl->isClosing = TRUE;
-    if (cl->isClosing) return;
+    s->compat->clients++;
+    s->compat->came++;
+    return cl;
+}
+
+/* Asks the program what becomes of a connection that came. */
+static void come(rfbScreenInfoPtr s, int connection,
+                 const struct sockaddr_storage *from, rfbBool isDriven)
+{
+    enum rfbNewClientAction action = RFB_CLIENT_ACCEPT;
+    rfbClientPtr cl = new_client(s, connection, from, isDriven);
+    if (!cl) {
+        close(connection);
+        return;
+    }
+    cl->holds++;
+    if (s->newClientHook) action = s->newClientHook(cl);
+    if (cl->connection >= 0 && action == RFB_CLIENT_REFUSE) part(s, cl);
+    cl->onHold = truth(action == RFB_CLIENT_ON_HOLD);
+    if (cl->connection >= 0 && cl->onHold)
+        rfbDoorWatch(&s->compat->door, cl->connection);
+    drop(cl);
+}
+
+/* Whether somebody is served. */
+static rfbBool is_watched(rfbScreenInfoPtr s)
+{
+    for (rfbClientPtr cl = s->clientHead; cl; cl = cl->next)
+        if (cl->hasAsked && !cl->isGone) return TRUE;
+    return FALSE;
+}
+
+/* Asks the program of those that came, while there is room. Where somebody is
+ * served it is one in a turn. */
+static void accept_some(rfbScreenInfoPtr s, rfbBool isDriven)
+{
+    struct rfbCompat *c = s->compat;
+    const rfbBool isBusy = is_watched(s);
+    struct sockaddr_storage from;
+    for (int k = 0; k < (isBusy ? 1 : MOST_ACCEPTED); k++) {
+        int connection = -1;
+        if (c->clients < MOST_VIEWERS)
+            connection = rfbDoorNext(&c->door, isBusy, &from);
+        if (connection < 0) break;
+        come(s, connection, &from, isDriven);
+    }
+    rfbDoorFill(&c->door, truth(c->clients >= MOST_VIEWERS));
+}
+
+/* Whether a client's connection waits for the server. */
+static rfbBool is_waiting(rfbClientPtr cl)
+{
+    return truth(cl->number == 0 && !cl->isClosing && !cl->isGone);
+}
+
+/* The descriptor that the server is to have of a client's connection: where
+ * the program drives sockets it is another of the same. */
+static int descriptor_for_server(rfbClientPtr cl)
+{
+    const int connection = cl->connection;
+    if (cl->isDriven) return fcntl(connection, F_DUPFD_CLOEXEC, 0);
+    cl->connection = RFB_INVALID_SOCKET;
+    return connection;
+}
+
+/* Gives the server a client's connection, and takes frameBuffer, also what was
+ * never marked. */
+static void admit(rfbScreenInfoPtr s, rfbClientPtr cl)
+{
+    struct rfbCompat *c = s->compat;
+    int64_t code = VNC_ERROR_CANNOT_ADOPT;
+    int fd;
+    rfbDoorForget(&c->door, cl->connection);
+    rfbLookoutRest(cl->lookout, cl->connection);
+    cl->sock = cl->connection;
+    cl->state = STATE(RFB_INITIALISATION);
+    fd = descriptor_for_server(cl);
+    if (fd >= 0) code = vnc_server_adopt(c->server, fd);
+    if (code == VNC_ERROR_BAD_SOCKET) close(fd); /* it has left */
+    else if (code < 0)
+        rfbErr("a viewer of %s is not served: %s\n", cl->host,
+               vnc_code_text((int32_t)code));
+    if (code < 0) {
+        note_gone(cl);
+        return;
+    }
+    cl->number = (uint64_t)code;
     mark(s, 0, 0, s->width, s->height);
     take_marks(s);
 }
 
-/* Lets go those that are to be closed, and viewers that no client is of, as
- * their coming was lost. */
+static void admit_some(rfbScreenInfoPtr s)
+{
+    for (rfbClientPtr cl = s->clientHead; cl; cl = cl->next)
+        if (is_waiting(cl) && !cl->onHold) admit(s, cl);
+}
+
+/* Lets go those that are to be closed. */
 static void close_some(rfbScreenInfoPtr s)
 {
-    struct rfbCompat *c = s->compat;
-    int32_t known = 0;
     for (rfbClientPtr cl = s->clientHead; cl; cl = cl->next) {
-        if (!cl->isGone) known++;
-        if (cl->isClosing && !cl->isLetGo) let_go(s, cl->number);
-        cl->isLetGo = cl->isClosing;
+        if (!cl->isClosing || cl->isLetGo || cl->isGone) continue;
+        cl->isLetGo = TRUE;
+        if (cl->number) let_go(s, cl->number);
+        else note_gone(cl);
     }
-    while (vnc_server_viewer_count(c->server) > known &&
-           let_go(s, c->last + 1))
-        c->last++;
 }
 
 /* The client that came first of those whose opening is over since the last
@@ -535,6 +614,7 @@ static void share(rfbScreenInfoPtr s, rfbClientPtr cl)
 {
     vnc_settings set;
     cl->isOpen = TRUE;
+    cl->state = STATE(RFB_NORMAL);
     if (vnc_server_settings(s->compat->server, cl->number, &set) < 0) return;
     if (!s->neverShared && (s->alwaysShared || set.shared)) return;
     for (rfbClientPtr it = s->clientHead; it; it = it->next)
@@ -616,7 +696,8 @@ static rfbBool tell_next(rfbScreenInfoPtr s)
     c->inputs--;
     hear(s);
     cl = client_of(s->clientHead, next.in.viewer);
-    if (cl && !cl->isClosing && !cl->viewOnly) tell(s, cl, &next);
+    if (cl && !cl->isClosing && !cl->isParted && !cl->viewOnly)
+        tell(s, cl, &next);
     free(next.text);
     return TRUE;
 }
@@ -627,51 +708,47 @@ static void end_server(rfbScreenInfoPtr s)
     struct rfbCompat *c = s->compat;
     if (c->server &&
         vnc_server_record_state(c->server) == VNC_RECORD_BROKEN)
-        rfbErr("the record %s has ended before its session\n", c->record);
+        rfbErr("the record %s has ended before its session\n", s->record);
     vnc_waker_free(c->waker);
     c->waker = NULL;
     vnc_server_free(c->server);
     c->server = NULL;
+    rfbDoorClose(&c->door);
     for (; c->inputs > 0; c->inputs--)
         free(c->heard[(c->first + c->inputs - 1) % MOST_HEARD].text);
+    for (rfbClientPtr cl = s->clientHead; cl; cl = cl->next) cl->number = 0;
     s->listenSock = RFB_INVALID_SOCKET;
     s->maxFd = 0;
     FD_ZERO(&s->allFds);
 }
 
-/* Frees a client that is gone, once its hook was called. */
-static void part(rfbScreenInfoPtr s, rfbClientPtr cl)
-{
-    if (s->pointerClient == cl) s->pointerClient = NULL;
-    if (cl->clientGoneHook) cl->clientGoneHook(cl);
-    free(cl);
-}
-
-/* Parts with those that are gone, but for one that has inputs to be told or
- * that an iterator stands at, and ends the server where it is to end: whether
- * one went. */
-static rfbBool settle(rfbScreenInfoPtr s)
+/* A client to part with: one that is gone, that nobody holds, and that has no
+ * inputs to be told. */
+static rfbClientPtr next_to_part(rfbScreenInfoPtr s)
 {
     struct rfbCompat *c = s->compat;
-    rfbBool hasGone = FALSE;
-    if (c->isEnding) s->socketState = RFB_SOCKET_SHUTDOWN;
-    for (rfbClientPtr *at = &s->clientHead, cl; (cl = *at);) {
-        rfbBool stays;
-        if (c->isEnding) cl->isGone = TRUE;
-        stays = truth(!cl->isGone || cl->holds > 0 ||
-                      (!c->isEnding && is_heard(c, cl->number)));
-        if (stays) {
-            at = &cl->next;
-            continue;
-        }
-        *at = cl->next;
-        hasGone = TRUE;
-        part(s, cl);
+    for (rfbClientPtr cl = s->clientHead; cl; cl = cl->next)
+        if (cl->isGone && cl->holds == 0 &&
+            (c->isEnding || !is_heard(c, cl->number)))
+            return cl;
+    return NULL;
+}
+
+/* Parts with those that are gone, unless that is left to the program, and ends
+ * the server where it is to end. */
+static void settle(rfbScreenInfoPtr s, rfbBool parts)
+{
+    struct rfbCompat *c = s->compat;
+    rfbClientPtr cl;
+    if (c->isEnding) {
+        s->socketState = RFB_SOCKET_SHUTDOWN;
+        for (cl = s->clientHead; cl; cl = cl->next)
+            if (!cl->isGone) note_gone(cl);
     }
-    if (s->socketState == RFB_SOCKET_SHUTDOWN &&
-        (!s->clientHead || c->isEnding))
-        end_server(s);
-    return hasGone;
+    while (parts && (cl = next_to_part(s))) part(s, cl);
+    if (s->socketState != RFB_SOCKET_SHUTDOWN) return;
+    rfbDoorShut(&c->door);
+    if (!s->clientHead || c->isEnding) end_server(s);
 }
 
 /* ---- iterators ---- */
@@ -695,8 +772,8 @@ rfbClientPtr rfbClientIteratorNext(rfbClientIteratorPtr i)
     lock(i->screen);
     next = i->at ? i->at->next : i->screen->clientHead;
     while (next && (next->isClosing || next->isGone)) next = next->next;
-    if (i->at) i->at->holds--;
     if (next) next->holds++;
+    if (i->at) drop(i->at);
     i->at = next;
     unlock(i->screen);
     return next;
@@ -706,7 +783,7 @@ void rfbReleaseClientIterator(rfbClientIteratorPtr i)
 {
     if (!i) return;
     lock(i->screen);
-    if (i->at) i->at->holds--;
+    if (i->at) drop(i->at);
     unlock(i->screen);
     free(i);
 }
@@ -716,10 +793,7 @@ void rfbReleaseClientIterator(rfbClientIteratorPtr i)
 /* What asks for protection that isn't here, or NULL. */
 static const char *protection_of(rfbScreenInfoPtr s)
 {
-    if (s->authPasswdData) return "authPasswdData is set";
-    if (s->passwordCheck)
-        return "passwordCheck is set, though not authPasswdData";
-    return s->compat->promise;
+    return s->authPasswdData ? "authPasswdData is set" : s->promise;
 }
 
 /* Whether protection is wanted that isn't here, which is said. */
@@ -733,47 +807,66 @@ static rfbBool is_refused(rfbScreenInfoPtr s)
     return truth(what != NULL);
 }
 
-static rfbBool is_watched(rfbScreenInfoPtr s)
+/* Notes who left, by what the library says; and where that was lost, by whom it
+ * has. */
+static void note_events(rfbScreenInfoPtr s)
 {
-    for (rfbClientPtr cl = s->clientHead; cl; cl = cl->next)
-        if (cl->hasAsked && !cl->isGone) return TRUE;
-    return FALSE;
+    struct rfbCompat *c = s->compat;
+    const int64_t lost = vnc_server_lost_count(c->server);
+    vnc_event event;
+    rfbClientPtr cl;
+    while (vnc_server_next_events(c->server, &event, 1) > 0) {
+        cl = client_of(s->clientHead, event.viewer);
+        if (cl && event.kind == VNC_EVENT_DISCONNECTED) note_gone(cl);
+    }
+    for (cl = s->clientHead; cl && lost > c->lost; cl = cl->next)
+        if (cl->number && !cl->isGone &&
+            vnc_server_is_open(c->server, cl->number) == VNC_ERROR_NO_VIEWER)
+            note_gone(cl);
+    c->lost = lost;
 }
 
 /* Takes what is marked, and a turn of the library's, and sees to what came of
- * it. */
-static void take_turn(rfbScreenInfoPtr s)
+ * it, and to who comes. */
+static void take_turn(rfbScreenInfoPtr s, rfbBool isDriven)
 {
-    vnc_server *server = s->compat->server;
-    vnc_event event;
     rfbClientPtr cl;
     int32_t code;
     take_marks(s);
     close_some(s);
-    code = vnc_server_process_events(server, 0);
+    code = vnc_server_process_events(s->compat->server, 0);
     if (code < 0) {
         rfbErr("a turn ended early: %s\n", vnc_code_text(code));
         poll(NULL, 0, 10);
     }
-    while (vnc_server_next_events(server, &event, 1) > 0) {
-        cl = client_of(s->clientHead, event.viewer);
-        if (event.kind == VNC_EVENT_CONNECTED) come(s, event.viewer);
-        else if (cl) cl->isGone = TRUE;
-    }
+    note_events(s);
     while ((cl = opened_first(s))) share(s, cl);
     note_requests(s);
     hear(s);
+    accept_some(s, isDriven);
+    admit_some(s);
+    note_events(s);
 }
 
 /* Takes a turn of the library's, unless many inputs wait: then no more are
  * heard, and viewers' sockets hold them back. Tells a hook an input, or hooks
  * all: whether one was told. */
-static rfbBool serve(rfbScreenInfoPtr s)
+static rfbBool serve(rfbScreenInfoPtr s, rfbBool isDriven)
 {
     rfbBool hasTold = FALSE;
-    if (s->compat->inputs < FEW_HEARD) take_turn(s);
-    while ((!hasTold || s->handleEventsEagerly) && tell_next(s)) hasTold = TRUE;
+    const rfbBool tellsAll = truth(s->handleEventsEagerly || isDriven);
+    if (s->compat->inputs < FEW_HEARD) take_turn(s, isDriven);
+    while ((!hasTold || tellsAll) && tell_next(s)) hasTold = TRUE;
     return hasTold;
+}
+
+/* For how long a turn may wait for the sake of those that the server hasn't. */
+static int wait_of_waiting(rfbScreenInfoPtr s)
+{
+    int most = LONGEST;
+    for (rfbClientPtr cl = s->clientHead; cl; cl = cl->next)
+        if (is_waiting(cl)) most = smaller(most, cl->onHold ? HOLD_LOOK : 0);
+    return most;
 }
 
 /* For how long a turn may wait that is to wait so many milliseconds at most. */
@@ -786,41 +879,58 @@ static int wait_of(rfbScreenInfoPtr s, int ms)
     if (!c->server) return smaller(ms, most);
     if (c->isEnding || c->inputs > 0) return 0;
     if (c->marks) most = larger(s->deferUpdateTime, 0);
+    most = smaller(most, wait_of_waiting(s));
     return smaller(ms, smaller(larger(vnc_server_timeout(c->server), 0), most));
 }
 
-/* Waits until the library has something to do, without the lock, for so many
+/* Notes that a descriptor was ready: where it is a connection that waits for
+ * the server, that has ended. */
+static void note_ready(rfbScreenInfoPtr s, int ready)
+{
+    struct rfbCompat *c = s->compat;
+    if (!c->server ||
+        rfbDoorNote(&c->door, vnc_server_fd(c->server), ready))
+        return;
+    for (rfbClientPtr cl = s->clientHead; cl; cl = cl->next)
+        if (cl->connection == ready && is_waiting(cl)) note_gone(cl);
+}
+
+/* Waits until there is something to do, without the lock, for so many
  * milliseconds at most: whether a socket was ready. */
 static rfbBool wait_for(rfbScreenInfoPtr s, int ms)
 {
     struct rfbCompat *c = s->compat;
-    struct pollfd ready = {-1, POLLIN, 0};
+    int ready[MOST_READY], count, all;
     c->waiting++;
     ms = wait_of(s, ms);
-    if (c->server) ready.fd = vnc_server_fd(c->server);
+    all = c->door.all;
     unlock(s);
-    poll(&ready, 1, ms);
+    count = rfbDoorWait(all, ms, ready, MOST_READY);
     lock(s);
     c->waiting--;
-    return truth(ready.revents);
+    for (int k = 0; k < count; k++) note_ready(s, ready[k]);
+    return truth(count > 0);
 }
 
-/* Takes one turn, which waits so many milliseconds at most: what
- * rfbProcessEvents answers. */
-static rfbBool turn(rfbScreenInfoPtr s, int ms)
+/* Takes one turn, which waits so many milliseconds at most, for a program that
+ * drives sockets itself or not: what rfbProcessEvents answers. */
+static rfbBool turn(rfbScreenInfoPtr s, int ms, rfbBool isDriven)
 {
     struct rfbCompat *c = s->compat;
     rfbBool isReady, isDue = FALSE, hasTold = FALSE;
+    uint64_t went;
     lock(s);
     c->depth++;
     isReady = wait_for(s, ms);
-    if (c->server && is_refused(s)) c->isEnding = TRUE;
+    went = c->went;
+    if (c->server && is_refused(s)) fail(s);
     if (c->server && !c->isEnding) {
         isDue = truth(is_watched(s) && (c->marks > 0 || isReady ||
                                         vnc_server_timeout(c->server) == 0));
-        hasTold = serve(s);
+        hasTold = serve(s, isDriven);
     }
-    if (c->depth == 1 && settle(s)) isDue = TRUE;
+    if (c->depth == 1) settle(s, truth(!isDriven));
+    if (c->went != went) isDue = TRUE;
     /* A program that waits by itself takes the next turn at once. */
     if (c->depth == 1 && c->server && !c->hasLooper && wait_of(s, -1) == 0)
         vnc_waker_wake(c->waker);
@@ -837,8 +947,79 @@ static int ms_of(rfbScreenInfoPtr s, long usec)
 
 rfbBool rfbProcessEvents(rfbScreenInfoPtr s, long usec)
 {
-    return turn(s, ms_of(s, usec));
+    return turn(s, ms_of(s, usec), FALSE);
 }
+
+/* ---- a program that drives sockets itself ---- */
+
+rfbBool rfbProcessNewConnection(rfbScreenInfoPtr s)
+{
+    uint64_t came;
+    lock(s);
+    came = s->compat->came;
+    turn(s, 0, TRUE);
+    came = s->compat->came - came;
+    unlock(s);
+    return truth(came > 0);
+}
+
+/* Takes a turn for a client. Where that has left, its sock says so then. */
+static rfbBool drive(rfbClientPtr cl)
+{
+    rfbScreenInfoPtr s = cl->screen;
+    rfbBool isDue;
+    lock(s);
+    cl->holds++;
+    isDue = turn(s, 0, TRUE);
+    if (cl->isGone) cl->sock = RFB_INVALID_SOCKET;
+    drop(cl);
+    unlock(s);
+    return isDue;
+}
+
+/* Of a client on hold there is nothing to process: its sock is its connection
+ * from then on, and the program is to say what becomes of it. */
+void rfbProcessClientMessage(rfbClientPtr cl)
+{
+    lock(cl->screen);
+    if (cl->onHold && is_waiting(cl)) {
+        cl->state = STATE(RFB_INITIALISATION);
+        cl->sock = cl->connection;
+    }
+    unlock(cl->screen);
+    drive(cl);
+}
+
+rfbBool rfbUpdateClient(rfbClientPtr cl) { return drive(cl); }
+
+void rfbStartOnHoldClient(rfbClientPtr cl)
+{
+    lock(cl->screen);
+    cl->onHold = FALSE;
+    wake(cl->screen);
+    unlock(cl->screen);
+}
+
+void rfbClientConnectionGone(rfbClientPtr cl)
+{
+    rfbScreenInfoPtr s = cl->screen;
+    lock(s);
+    if (!cl->isParted) {
+        if (s->compat->server && cl->number && !cl->isGone)
+            let_go(s, cl->number);
+        note_gone(cl);
+        part(s, cl);
+    }
+    wake(s);
+    unlock(s);
+}
+
+void rfbRefuseOnHoldClient(rfbClientPtr cl)
+{
+    rfbClientConnectionGone(cl);
+}
+
+/* ---- loops ---- */
 
 rfbBool rfbIsActive(rfbScreenInfoPtr s)
 {
@@ -864,7 +1045,7 @@ static void *loop(void *at)
 {
     rfbScreenInfoPtr s = (rfbScreenInfoPtr)at;
     const long usec = s->compat->usec;
-    while (!is_over(s)) turn(s, usec < 0 ? -1 : ms_of(s, usec));
+    while (!is_over(s)) turn(s, usec < 0 ? -1 : ms_of(s, usec), FALSE);
     return NULL;
 }
 
@@ -884,28 +1065,6 @@ void rfbRunEventLoop(rfbScreenInfoPtr s, long usec, rfbBool runInBackground)
 
 /* ---- beginning and end ---- */
 
-static rfbBool set_format(rfbScreenInfoPtr s, int width, int height, int bits,
-                          int samples, int bytes)
-{
-    const uint16_t max = (uint16_t)((1 << (bits & 15)) - 1);
-    const rfbPixelFormat sampled = {
-        (uint8_t)(8 * bytes), (uint8_t)(bits * samples), 0,   1,
-        max,                  max,                       max, 0,
-        (uint8_t)bits,        (uint8_t)(2 * bits)};
-    const rfbPixelFormat of_a_byte = {8, 8, 0, 1, 7, 7, 3, 0, 3, 6};
-    if (width < 1 || width > MOST_COLUMNS) return FALSE;
-    if (height < 1 || height > MOST_ROWS) return FALSE;
-    if (bits < 1 || bits > 10 || bytes < 1 || bytes > 4) return FALSE;
-    s->width = width;
-    s->height = height;
-    s->depth = bits * samples;
-    s->bitsPerPixel = 8 * bytes;
-    s->paddedWidthInBytes = width * bytes;
-    s->sizeInBytes = width * bytes * height;
-    s->serverFormat = bytes == 1 ? of_a_byte : sampled;
-    return TRUE;
-}
-
 static void make_lock(pthread_mutex_t *made)
 {
     pthread_mutexattr_t recursive;
@@ -919,7 +1078,7 @@ static void set_defaults(rfbScreenInfoPtr s)
 {
     s->whitePixel = 0xffffffff;
     s->port = s->ipv6port = FIRST_PORT;
-    s->listenSock = RFB_INVALID_SOCKET;
+    s->listenSock = s->listen6Sock = RFB_INVALID_SOCKET;
     s->listenInterface = htonl(INADDR_ANY);
     s->deferUpdateTime = 5;
     s->desktopName = "LibVNCServer";
@@ -933,103 +1092,60 @@ rfbScreenInfoPtr rfbGetScreen(int *argc, char **argv, int width, int height,
     rfbScreenInfoPtr s =
         (rfbScreenInfoPtr)calloc(1, sizeof *s + sizeof *s->compat);
     if (!s) return NULL;
-    if (!set_format(s, width, height, bitsPerSample, samplesPerPixel,
+    if (!rfbSetFormat(s, width, height, bitsPerSample, samplesPerPixel,
                     bytesPerPixel)) {
         free(s);
         return NULL;
     }
     s->compat = (struct rfbCompat *)(s + 1);
     make_lock(&s->compat->lock);
+    pthread_mutex_init(&s->cursorMutex, NULL);
+    rfbDoorInit(&s->compat->door);
     set_defaults(s);
     if (rfbProcessArguments(s, argc, argv)) return s;
     rfbScreenCleanup(s);
     return NULL;
 }
 
-/* Whether one socket of IPv6 takes connections of both versions. */
-static rfbBool takes_both(void)
+/* Says why nobody is served, which for the system is `error`. */
+static void say_refusal(rfbScreenInfoPtr s, int32_t code, int error)
 {
-    int fd = socket(AF_INET6, SOCK_STREAM, 0);
-    int isAlone = 1;
-    socklen_t size = sizeof isAlone;
-    if (fd < 0) return FALSE;
-    if (getsockopt(fd, IPPROTO_IPV6, IPV6_V6ONLY, &isAlone, &size)) isAlone = 1;
-    close(fd);
-    return truth(!isAlone);
+    const rfbBool isSystem = truth(error && (code == VNC_ERROR_NETWORK ||
+                                             code == VNC_ERROR_CANNOT_RECORD));
+    const char *why = isSystem ? strerror(error) : vnc_code_text(code);
+    if (code == VNC_ERROR_CANNOT_RECORD)
+        rfbErr("the record %s can't be made: %s\n", s->record, why);
+    rfbErr("nobody is served on port %d: %s\n", s->port, why);
 }
 
-static int32_t listen_at(rfbScreenInfoPtr s, const char *address, int port)
+/* Makes a server, which listens nowhere: 0, or why not, which is said. */
+static int32_t make_server(rfbScreenInfoPtr s)
 {
     struct rfbCompat *c = s->compat;
+    const rfbBool isOther = truth(vnc_server_abi() != VNC_SERVER_ABI);
+    vnc_server *server =
+        isOther ? NULL : (vnc_server *)malloc(vnc_server_size());
+    int32_t code = isOther ? VNC_ERROR_VERSION : VNC_ERROR_NO_MEMORY;
     char name[256] = "";
-    if (s->desktopName) strncpy(name, s->desktopName, sizeof name - 1);
-    return vnc_server_new_recorded(
-        address, (uint16_t)port, (uint32_t)s->width, (uint32_t)s->height, name,
-        MOST_VIEWERS, c->record ? c->record : "", &c->server);
-}
-
-/* Where a server listens, or is to listen. */
-struct place {
-    char address[INET_ADDRSTRLEN];
-    int port;
-    rfbBool isBoth; /* IPv6 too */
-};
-
-/* Listens at a port, by both versions where that is wanted and can be had: 0,
- * or why not. */
-static int32_t listen_by(rfbScreenInfoPtr s, struct place *at, rfbBool isBoth)
-{
-    int32_t code = VNC_ERROR_CANNOT_LISTEN;
-    if (isBoth) code = listen_at(s, "::", at->port);
-    at->isBoth = truth(code == 0);
-    if (code == VNC_ERROR_CANNOT_LISTEN)
-        code = listen_at(s, at->address, at->port);
-    return code;
-}
-
-/* Says where it listens, or why it doesn't, which for the system is `error`. */
-static void say_place(rfbScreenInfoPtr s, const struct place *at, int32_t code,
-                      int error)
-{
-    const char *why = vnc_code_text(code);
-    if (code == VNC_ERROR_CANNOT_LISTEN && error) why = strerror(error);
-    if (code == VNC_ERROR_CANNOT_RECORD)
-        rfbErr("the record %s can't be made: %s\n", s->compat->record,
-               error ? strerror(error) : why);
-    if (code < 0)
-        rfbErr("nobody is served on port %d of %s: %s\n", at->port,
-               at->address, why);
-    else
-        rfbLog("listening on port %d of %s%s\n", at->port, at->address,
-               at->isBoth ? " and of IPv6" : "");
-}
-
-/* Listens on port, or on the first that is free: 0, or why not, which is
- * said. */
-static int32_t listen_anywhere(rfbScreenInfoPtr s)
-{
-    const rfbBool isAny = truth(s->listenInterface == htonl(INADDR_ANY));
-    const rfbBool isBoth = truth(isAny && s->ipv6port > 0 && takes_both());
-    const int last = s->autoPort ? LAST_PORT : s->port;
-    struct place at = {"", s->autoPort ? FIRST_PORT : s->port, FALSE};
-    int32_t code;
-    if (s->port < 1 || s->port > 65535) {
-        rfbErr("nobody is served: there is no port %d\n", s->port);
-        return VNC_ERROR_CANNOT_LISTEN;
-    }
-    inet_ntop(AF_INET, &s->listenInterface, at.address, sizeof at.address);
     errno = 0;
-    code = listen_by(s, &at, isBoth);
-    while (code == VNC_ERROR_CANNOT_LISTEN && at.port < last) {
-        at.port++;
-        code = listen_by(s, &at, isBoth);
+    if (s->desktopName) strncpy(name, s->desktopName, sizeof name - 1);
+    if (server) {
+        vnc_server_init(server);
+        code = vnc_server_record(server, s->record ? s->record : "");
     }
-    say_place(s, &at, code, errno);
-    if (code == 0) s->port = at.port;
+    if (code == 0)
+        code = vnc_server_serve(server, (uint32_t)s->width, (uint32_t)s->height,
+                                name, MOST_VIEWERS);
+    if (code == 0) {
+        c->server = server;
+        return 0;
+    }
+    say_refusal(s, code, errno);
+    vnc_server_free(server);
     return code;
 }
 
-/* Makes the waker of a server that listens: 0, or why not, which is said. */
+/* Makes the server's waker: 0, or why not, which is said. */
 static int32_t make_waker(struct rfbCompat *c)
 {
     int32_t code = vnc_waker_new(c->server, &c->waker);
@@ -1042,25 +1158,54 @@ static int32_t make_waker(struct rfbCompat *c)
 /* Puts the descriptor to wait on where programs look for it. */
 static void offer_descriptor(rfbScreenInfoPtr s)
 {
-    s->listenSock = vnc_server_fd(s->compat->server);
+    s->listenSock = s->compat->door.all;
     if (s->listenSock < 0 || s->listenSock >= FD_SETSIZE) return;
     s->maxFd = s->listenSock;
     FD_SET(s->listenSock, &s->allFds);
 }
 
+/* Has what listens bring connections to the server, which is made, unless there
+ * is one still: whether it does. If not that is said. */
+static rfbBool open_door(rfbScreenInfoPtr s)
+{
+    struct rfbCompat *c = s->compat;
+    if (!c->server) {
+        c->asked = c->lost = 0;
+        c->isEnding = FALSE;
+        if (make_server(s) < 0 || make_waker(c) < 0) return FALSE;
+    }
+    if (rfbDoorOpen(&c->door, vnc_server_fd(c->server))) return TRUE;
+    rfbErr("nobody is served on port %d: %s\n", s->port, strerror(errno));
+    return FALSE;
+}
+
+/* Says where viewers may come. */
+static void say_place(rfbScreenInfoPtr s)
+{
+    char address[INET_ADDRSTRLEN] = "";
+    inet_ntop(AF_INET, &s->listenInterface, address, sizeof address);
+    rfbLog("listening on port %d of %s%s\n", s->port, address,
+           s->compat->door.listeners[1] >= 0 ? " and of IPv6" : "");
+    if (s->passwordCheck)
+        rfbLog("passwordCheck is set, and authPasswdData isn't: nobody is "
+               "asked for a password\n");
+}
+
 void rfbInitServer(rfbScreenInfoPtr s)
 {
     struct rfbCompat *c = s->compat;
-    int32_t code = VNC_ERROR_CANNOT_LISTEN;
-    if (c->server) return;
-    c->last = 0;
-    c->asked = 0;
-    if (c->isEnding) rfbErr("nobody is served: the screen has ended\n");
-    else if (!is_refused(s)) code = listen_anywhere(s);
-    if (code == 0) code = make_waker(c);
-    s->socketState = code == 0 ? RFB_SOCKET_READY : RFB_SOCKET_SHUTDOWN;
-    settle(s);
-    if (c->server) offer_descriptor(s);
+    rfbBool isServed = FALSE;
+    lock(s);
+    if (!c->server || (s->socketState != RFB_SOCKET_READY && !c->isEnding)) {
+        if (c->hasFailed) rfbErr("nobody is served: the screen has ended\n");
+        else if (!is_refused(s) && rfbDoorListen(&c->door, s))
+            isServed = open_door(s);
+        if (isServed) say_place(s);
+        s->socketState = isServed ? RFB_SOCKET_READY : RFB_SOCKET_SHUTDOWN;
+        if (c->depth == 0) settle(s, FALSE);
+        if (c->server) offer_descriptor(s);
+    }
+    unlock(s);
 }
 
 void rfbNewFramebuffer(rfbScreenInfoPtr s, char *frameBuffer, int width,
@@ -1071,7 +1216,7 @@ void rfbNewFramebuffer(rfbScreenInfoPtr s, char *frameBuffer, int width,
     const rfbBool isResized = truth(s->width != width || s->height != height);
     int32_t code = 0;
     lock(s);
-    if (!set_format(s, width, height, bitsPerSample, samplesPerPixel,
+    if (!rfbSetFormat(s, width, height, bitsPerSample, samplesPerPixel,
                     bytesPerPixel))
         code = VNC_ERROR_BAD_FORMAT;
     else if (c->server && isResized)
@@ -1079,7 +1224,7 @@ void rfbNewFramebuffer(rfbScreenInfoPtr s, char *frameBuffer, int width,
                                           (uint32_t)height);
     if (code < 0) {
         rfbErr("rfbNewFramebuffer: the server ends: %s\n", vnc_code_text(code));
-        c->isEnding = TRUE;
+        fail(s);
     }
     s->frameBuffer = frameBuffer;
     c->marks = 0;
@@ -1094,6 +1239,7 @@ void rfbShutdownServer(rfbScreenInfoPtr s, rfbBool disconnectClients)
                                 !pthread_equal(c->looper, pthread_self()));
     lock(s);
     s->socketState = RFB_SOCKET_SHUTDOWN;
+    rfbDoorShut(&c->door);
     if (disconnectClients) c->isEnding = TRUE;
     wake(s);
     unlock(s);
@@ -1102,7 +1248,7 @@ void rfbShutdownServer(rfbScreenInfoPtr s, rfbBool disconnectClients)
         c->hasLooper = FALSE;
     }
     lock(s);
-    if (c->depth == 0) settle(s);
+    if (c->depth == 0) settle(s, disconnectClients);
     unlock(s);
 }
 
@@ -1122,179 +1268,7 @@ void rfbScreenCleanup(rfbScreenInfoPtr s)
     unlock(s);
     rfbShutdownServer(s, TRUE);
     rfbFreeCursor(s->cursor);
+    pthread_mutex_destroy(&s->cursorMutex);
     pthread_mutex_destroy(&s->compat->lock);
     free(s);
-}
-
-/* ---- arguments ---- */
-
-/* Takes so many words out of the list. */
-static void take_out(int *argc, char **argv, int at, int count)
-{
-    memmove(argv + at, argv + at + count,
-            (size_t)(*argc - at - count) * sizeof *argv);
-    *argc -= count;
-    argv[*argc] = NULL;
-}
-
-/* What a word does: it sets a field to a number, a text or TRUE; says where to
- * listen or record; or what is said of it. VALUE and NOTHING have no effect,
- * the first with a value. */
-enum effect {
-    NUMBER,
-    TEXT,
-    FLAG,
-    ADDRESS,
-    RECORD,
-    PASSWORD,
-    PROMISE,
-    IPV4_ALONE,
-    VALUE,
-    NOTHING,
-    HELP
-};
-
-#define AT(field) offsetof(rfbScreenInfo, field)
-#define REFUSED_PASSWORD \
-    "is refused: there are no passwords, and the screen is not served"
-#define REFUSED_TLS "is refused: there is no TLS, and the screen is not served"
-#define NO_EFFECT "has no effect here: "
-#define NO_HTTP NO_EFFECT "there is no HTTP"
-
-static const struct {
-    const char *word;
-    enum effect does;
-    size_t at;
-    const char *said;
-} words[] = {
-    {"-rfbport", NUMBER, AT(port), NULL},
-    {"-rfbportv6", NUMBER, AT(ipv6port),
-     "above 0: IPv6 is served on -rfbport's port; else not at all"},
-    {"-listen", ADDRESS, 0, NULL},
-    {"-listenv6", IPV4_ALONE, 0,
-     "has the screen served by IPv4 alone: IPv6 can't be confined to one "
-     "address here"},
-    {"-deferupdate", NUMBER, AT(deferUpdateTime), NULL},
-    {"-desktop", TEXT, AT(desktopName), NULL},
-    {"-alwaysshared", FLAG, AT(alwaysShared), NULL},
-    {"-nevershared", FLAG, AT(neverShared), NULL},
-    {"-dontdisconnect", FLAG, AT(dontDisconnect), NULL},
-    {"-record", RECORD, 0, NULL},
-    {"-passwd", PASSWORD, 0, REFUSED_PASSWORD},
-    {"-rfbauth", PASSWORD, 0, REFUSED_PASSWORD},
-    {"-sslkeyfile", PROMISE, 0, REFUSED_TLS},
-    {"-sslcertfile", PROMISE, 0, REFUSED_TLS},
-    {"-httpdir", TEXT, AT(httpDir), NO_HTTP},
-    {"-httpport", NUMBER, AT(httpPort), NO_HTTP},
-    {"-httpportv6", VALUE, 0, NO_HTTP},
-    {"-enablehttpproxy", FLAG, AT(httpEnableProxyConnect), NO_HTTP},
-    {"-rfbwait", VALUE, 0, NO_EFFECT "no viewer holds up another"},
-    {"-rfbversion", VALUE, 0, NO_EFFECT "the version is 3.8"},
-    {"-permitfiletransfer", NOTHING, 0, NO_EFFECT "no files are transferred"},
-    {"-deferptrupdate", VALUE, 0, NO_EFFECT "each pointer event is told"},
-    {"-progressive", VALUE, 0, NO_EFFECT "an update is sent as a whole"},
-    {"-help", HELP, 0, NULL},
-};
-enum { WORDS = sizeof words / sizeof *words };
-
-static rfbBool has_value(enum effect does)
-{
-    return truth(does != FLAG && does != NOTHING && does != HELP);
-}
-
-void rfbUsage(void)
-{
-    for (int k = 0; k < WORDS; k++)
-        fprintf(stderr, "%s%s %s\n", words[k].word,
-                has_value(words[k].does) ? " VALUE" : "",
-                words[k].said ? words[k].said : "");
-}
-
-/* Listens at this address: FALSE where it is none. */
-static rfbBool set_address(rfbScreenInfoPtr s, const char *value)
-{
-    const char *digits = strcmp(value, "localhost") ? value : "127.0.0.1";
-    if (!*value || !strcmp(value, "any")) {
-        s->listenInterface = htonl(INADDR_ANY);
-        return TRUE;
-    }
-    if (inet_pton(AF_INET, digits, &s->listenInterface) == 1) return TRUE;
-    rfbErr("-listen: %s is no address of IPv4 in digits\n", value);
-    return FALSE;
-}
-
-/* Does what a word does: FALSE where the screen is not to be had. */
-static rfbBool obey(rfbScreenInfoPtr s, int k, char *value)
-{
-    char *field = (char *)s + words[k].at;
-    int number;
-    if (words[k].said) rfbErr("%s %s\n", words[k].word, words[k].said);
-    switch (words[k].does) {
-    case NUMBER:
-        number = atoi(value);
-        memcpy(field, &number, sizeof number);
-        break;
-    case TEXT: memcpy(field, &value, sizeof value); break;
-    case FLAG: *(rfbBool *)field = TRUE; break;
-    case RECORD: s->compat->record = value; break;
-    case PASSWORD: s->authPasswdData = value; break;
-    case PROMISE: s->compat->promise = words[k].word; break;
-    case IPV4_ALONE: s->ipv6port = 0; break;
-    case ADDRESS: return set_address(s, value);
-    case HELP: rfbUsage(); return FALSE;
-    default: break;
-    }
-    return TRUE;
-}
-
-/* The number of a word, or WORDS. */
-static int number_of(const char *word)
-{
-    int k = 0;
-    while (k < WORDS && strcmp(word, words[k].word)) k++;
-    return k;
-}
-
-rfbBool rfbProcessArguments(rfbScreenInfoPtr s, int *argc, char **argv)
-{
-    for (int at = 1; argc && at < *argc;) {
-        const int k = number_of(argv[at]);
-        char *value = NULL;
-        if (k == WORDS) {
-            at++;
-            continue;
-        }
-        if (has_value(words[k].does) && at + 1 < *argc) value = argv[at + 1];
-        if (has_value(words[k].does) &&
-            (!value || (words[k].does == RECORD && !*value))) {
-            rfbErr("%s wants a value\n", words[k].word);
-            return FALSE;
-        }
-        take_out(argc, argv, at, value ? 2 : 1);
-        if (!obey(s, k, value)) return FALSE;
-    }
-    return TRUE;
-}
-
-/* What a word gives a size, or NULL. */
-static int *size_of_word(const char *word, int *width, int *height, int *bpp)
-{
-    if (!strcmp(word, "-width")) return width;
-    if (!strcmp(word, "-height")) return height;
-    return strcmp(word, "-bpp") ? NULL : bpp;
-}
-
-rfbBool rfbProcessSizeArguments(int *width, int *height, int *bpp, int *argc,
-                                char **argv)
-{
-    for (int at = 1; argc && at < *argc - 1;) {
-        int *size = size_of_word(argv[at], width, height, bpp);
-        if (!size) {
-            at++;
-            continue;
-        }
-        *size = atoi(argv[at + 1]);
-        take_out(argc, argv, at, 2);
-    }
-    return TRUE;
 }

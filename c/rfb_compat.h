@@ -11,7 +11,9 @@
  *             deferUpdateTime milliseconds later at most, is sent where it
  *             differs from what was there. Hooks run in the loop.
  * Refused     A screen that wants a password is never served: see
- *             rfbInitServer. A client that is put on hold is closed.
+ *             rfbInitServer.
+ * On hold     Nothing is read of such a client, nor is it sent anything, until
+ *             the program sets onHold to FALSE, or calls rfbStartOnHoldClient.
  * Not here    What docs/EMBEDDING.md lists. A field that is not read says so;
  *             what is missing doesn't compile.
  * Threads     Each call takes the screen's lock, which is recursive. The loop
@@ -19,13 +21,14 @@
  *             for another thread that calls. One thread takes the turns. A
  *             rfbClientPtr lasts until its clientGoneHook has returned.
  *             frameBuffer is read with no lock of the program's.
- * Machines    Those with pthreads whose lowest byte comes first.
+ * Machines    Linux, where the lowest byte comes first.
  */
 #ifndef RFB_COMPAT_H
 #define RFB_COMPAT_H
 
 #include <arpa/inet.h>
 #include <netinet/in.h>
+#include <pthread.h>
 #include <stdint.h>
 #include <stdio.h>
 #include <stdlib.h>
@@ -57,6 +60,13 @@ extern "C" {
 #ifndef RFB_INVALID_SOCKET
 #define RFB_INVALID_SOCKET (-1)
 #endif
+/* Of passwords, which aren't here: see rfbEncryptBytes. */
+#define MAXPWLEN 8
+#define CHALLENGESIZE 16
+/* For cursorMutex. */
+#define MUTEX(mutex) pthread_mutex_t mutex
+#define LOCK(mutex) pthread_mutex_lock(&(mutex))
+#define UNLOCK(mutex) pthread_mutex_unlock(&(mutex))
 
 typedef int8_t rfbBool;
 typedef uint32_t rfbKeySym;
@@ -118,6 +128,7 @@ typedef struct _rfbScreenInfo {
     rfbColourMap colourMap;      /* of pixels of one byte, if not trueColour */
     /* As rfbInitServer finds it; its first 255 bytes count. */
     const char *desktopName;
+    char thisHost[255]; /* not read */
     int port; /* 1 to 65535 */
     /* The first free port from 5900 to 5999 is taken, and put into port. */
     rfbBool autoPort;
@@ -127,6 +138,7 @@ typedef struct _rfbScreenInfo {
     in_addr_t listenInterface;
     /* A descriptor to wait on: see rfbProcessEvents. -1: nobody is served. */
     rfbSocket listenSock;
+    rfbSocket listen6Sock; /* -1: listenSock has both versions of IP */
     /* The same for select, with allFds, which has no other; 0 if it can't. */
     int maxFd;
     fd_set allFds;
@@ -144,10 +156,12 @@ typedef struct _rfbScreenInfo {
     rfbPtrAddEventProcPtr ptrAddEvent;
     rfbSetXCutTextProcPtr setXCutText;
     rfbNewClientHookPtr newClientHook;
-    /* Where this or passwordCheck is set, the screen is not served. */
-    void *authPasswdData;
+    void *authPasswdData; /* where it is set, the screen is not served */
+    /* Never called. As there, it asks for no password without
+     * authPasswdData. */
     rfbPasswordCheckProcPtr passwordCheck;
     int cursorX, cursorY;
+    MUTEX(cursorMutex); /* the program's */
     rfbCursorPtr cursor;            /* kept and freed, not shown */
     char *httpDir;                  /* not read */
     int httpPort;                   /* not read */
@@ -155,6 +169,8 @@ typedef struct _rfbScreenInfo {
     /* Not the program's, from here on: characters stand in frameBuffer that are
      * maybe not marked. */
     rfbBool isWritten;
+    const char *record;  /* the file of -record, or NULL */
+    const char *promise; /* the word that promises what isn't here, or NULL */
     struct rfbCompat *compat;
 } rfbScreenInfo;
 
@@ -162,21 +178,49 @@ typedef struct _rfbClientRec {
     rfbScreenInfoPtr screen;
     void *clientData; /* the program's, for clientGoneHook to free */
     ClientGoneHookPtr clientGoneHook;
-    rfbSocket sock;   /* -1: the server has the socket */
+    /* Its connection, to wait for by poll, and to be asked for its address: no
+     * read, write or close is to be called on it. -1 once it has left. See
+     * rfbProcessClientMessage. */
+    rfbSocket sock;
     char *host;       /* its address in digits, or "unknown" */
+    /* How far it is: RFB_PROTOCOL_VERSION as it comes, RFB_INITIALISATION as
+     * the server has its connection, or of one on hold as
+     * rfbProcessClientMessage says, RFB_NORMAL once its opening is over. The
+     * others don't come. */
+    enum {
+        RFB_PROTOCOL_VERSION,
+        RFB_SECURITY_TYPE,
+        RFB_AUTHENTICATION,
+        RFB_INITIALISATION,
+        RFB_NORMAL,
+        RFB_INITIALISATION_SHARED,
+        RFB_SHUTDOWN
+    } state;
+    /* Set where newClientHook answers so. The program sets it to FALSE, and the
+     * next turn begins to serve the client; another thread than that which
+     * takes the turns calls rfbStartOnHoldClient. Who is served can't be put on
+     * hold. */
+    rfbBool onHold;
     rfbBool viewOnly; /* its inputs go to no hook */
+    rfbBool cursorWasMoved; /* not read */
+    uint8_t authChallenge[CHALLENGESIZE]; /* 0: nobody is sent one */
     /* Not read: where the program changes the screen's width or height, the
      * next turn tells every viewer. */
     rfbBool newFBSizePending;
     struct _rfbClientRec *next;
-    /* Not the program's, from here on: the server's number of it. */
+    /* Not the program's, from here on: the server's number of it, 0 where the
+     * server hasn't its connection. */
     uint64_t number;
+    int connection;    /* its socket, where the layer has it, or -1 */
+    int lookout;       /* what is sock's in newClientHook, or -1 */
+    rfbBool isDriven;  /* it came by a turn of a program that drives sockets */
     rfbBool isOpen;    /* its opening is over */
     rfbBool hasAsked;  /* it has asked for all */
     rfbBool isClosing; /* it is to be closed */
     rfbBool isLetGo;   /* the server was told so */
-    rfbBool isGone;    /* the server has it no more */
-    int holds;         /* how many iterators stand at it */
+    rfbBool isGone;    /* its connection has ended */
+    rfbBool isParted;  /* its hook was called */
+    int holds;         /* how many iterators and calls stand at it */
     char address[48];
 } rfbClientRec;
 
@@ -192,11 +236,12 @@ rfbScreenInfoPtr rfbGetScreen(int *argc, char **argv, int width, int height,
                               int bitsPerSample, int samplesPerPixel,
                               int bytesPerPixel);
 
-/* Listens. Where it can't, or protection is wanted that isn't here (a password,
- * or -sslkeyfile or -sslcertfile of the arguments), it says so by rfbErr, and
- * nobody is served: socketState is RFB_SOCKET_SHUTDOWN, rfbIsActive is FALSE,
- * and rfbRunEventLoop returns at once. A screen that wants a password later is
- * shut in the next turn. One that has ended is not served again. */
+/* Listens, also where rfbShutdownServer had it end. Where it can't, or
+ * protection is wanted that isn't here (a password, or -sslkeyfile or
+ * -sslcertfile of the arguments), it says so by rfbErr, and nobody is served:
+ * socketState is RFB_SOCKET_SHUTDOWN, rfbIsActive is FALSE, and
+ * rfbRunEventLoop returns at once. A screen that wants a password later is shut
+ * in the next turn. One that has ended by itself is not served again. */
 void rfbInitServer(rfbScreenInfoPtr s);
 
 /* Another frameBuffer, also of another size. Viewers that can't be told a new
@@ -218,7 +263,7 @@ rfbBool rfbIsActive(rfbScreenInfoPtr s);
  * went. But FALSE where it told an input: there are programs that look for
  * their inputs after FALSE alone.
  * A program that waits by itself takes a turn of 0 once listenSock can be read,
- * and deferUpdateTime after it drew. That is one descriptor of the library's
+ * and deferUpdateTime after it drew. That is one descriptor of the layer's
  * for all sockets, on which no accept, read or close is to be called: a select
  * loop sees it alone, and no client's. */
 rfbBool rfbProcessEvents(rfbScreenInfoPtr s, long usec);
@@ -254,10 +299,46 @@ void rfbSendServerCutText(rfbScreenInfoPtr s, char *text, int len);
 
 /* Closes a client in the next turn; its inputs are told no more. */
 void rfbCloseClient(rfbClientPtr cl);
+
+/* Has a client served that newClientHook had on hold. */
+void rfbStartOnHoldClient(rfbClientPtr cl);
+
+/* Does what rfbClientConnectionGone does. */
+void rfbRefuseOnHoldClient(rfbClientPtr cl);
+
+/* A program may wait for sockets itself, and not by rfbProcessEvents. Each of
+ * the next three calls takes a turn that doesn't wait: what is ready is done,
+ * for all clients, and the hooks are told all inputs. A turn of theirs parts
+ * with nobody, but for who is refused. A client that has left has its sock
+ * until the program calls one of the last two for it. Then that is -1, and the
+ * program calls rfbClientConnectionGone. */
+
+/* Is called once listenSock can be read, as it can for what comes of clients
+ * too: whether a connection came. In its newClientHook, and for a client on
+ * hold, sock is a descriptor of the layer's that can be read at once. */
+rfbBool rfbProcessNewConnection(rfbScreenInfoPtr s);
+
+/* Is called once sock can be read. For a client on hold nothing is processed:
+ * its sock is its own connection from then on, and state RFB_INITIALISATION, so
+ * that the program asks its user of it. */
+void rfbProcessClientMessage(rfbClientPtr cl);
+
+/* Is called every so many milliseconds, for what was marked. It answers as
+ * rfbProcessEvents does. */
+rfbBool rfbUpdateClient(rfbClientPtr cl);
+
+/* Parts with a client, whether it has left or not: it is closed, its
+ * clientGoneHook is called, and its record is freed. */
+void rfbClientConnectionGone(rfbClientPtr cl);
 void rfbDefaultPtrAddEvent(int buttonMask, int x, int y, rfbClientPtr cl);
 
-/* Returns FALSE. A screen that names it is not served. */
+/* Returns FALSE. */
 rfbBool rfbCheckPasswordByList(rfbClientPtr cl, const char *response, int len);
+
+/* Encrypts nothing, which rfbErr says: it fills CHALLENGESIZE bytes at random,
+ * so whatever is compared with them differs. Where the system has none to give
+ * it aborts. */
+void rfbEncryptBytes(unsigned char *bytes, char *passwd);
 
 /* The clients that are neither gone nor closed, the newest first, and NULL
  * behind them. The one that was given last stays until the next is asked for,

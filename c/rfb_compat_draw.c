@@ -1,7 +1,87 @@
-/* rfb_compat_draw.c: drawing in frameBuffer, fonts, a box to select from,
- * cursors and regions of rfb_compat.h. */
-#include "rfb_compat.h"
+/* rfb_compat_draw.c: frameBuffer, what is drawn and moved in it, fonts, a box
+ * to select from, cursors, regions and passwords of rfb_compat.h. */
+#include "rfb_compat_parts.h"
 #include <limits.h>
+#include <stddef.h>
+#include <sys/random.h>
+
+rfbBool rfbSetFormat(rfbScreenInfoPtr s, int width, int height, int bits,
+                     int samples, int bytes)
+{
+    const uint16_t max = (uint16_t)((1 << (bits & 15)) - 1);
+    const rfbPixelFormat sampled = {
+        (uint8_t)(8 * bytes), (uint8_t)(bits * samples), 0,   1,
+        max,                  max,                       max, 0,
+        (uint8_t)bits,        (uint8_t)(2 * bits)};
+    const rfbPixelFormat of_a_byte = {8, 8, 0, 1, 7, 7, 3, 0, 3, 6};
+    if (width < 1 || width > RFB_MOST_COLUMNS) return FALSE;
+    if (height < 1 || height > RFB_MOST_ROWS) return FALSE;
+    if (bits < 1 || bits > 10 || bytes < 1 || bytes > 4) return FALSE;
+    s->width = width;
+    s->height = height;
+    s->depth = bits * samples;
+    s->bitsPerPixel = 8 * bytes;
+    s->paddedWidthInBytes = width * bytes;
+    s->sizeInBytes = width * bytes * height;
+    s->serverFormat = bytes == 1 ? of_a_byte : sampled;
+    return TRUE;
+}
+
+/* ---- copies ---- */
+
+sraRect rfbCopied(rfbScreenInfoPtr s, sraRect r, int dx, int dy)
+{
+    const sraRect none = {0, 0, 0, 0};
+    const sraRect on = rect_of(larger(r.x1, larger(dx, 0)),
+                               larger(r.y1, larger(dy, 0)),
+                               smaller(r.x2, s->width + smaller(dx, 0)),
+                               smaller(r.y2, s->height + smaller(dy, 0)));
+    return on.x1 < on.x2 && on.y1 < on.y2 ? on : none;
+}
+
+/* Moves what comes to a row of frameBuffer from the row `from`. */
+static void copy_row(rfbScreenInfoPtr s, const sraRect *to, size_t count,
+                     int dx, int dy, int y, const char *from)
+{
+    const ptrdiff_t bytes = s->serverFormat.bitsPerPixel / 8;
+    char *row = s->frameBuffer + y * (ptrdiff_t)s->paddedWidthInBytes;
+    for (size_t k = 0; k < count; k++) {
+        const sraRect r = rfbCopied(s, to[k], dx, dy);
+        if (y >= r.y1 && y < r.y2)
+            memmove(row + r.x1 * bytes, from + (r.x1 - dx) * bytes,
+                    (size_t)((r.x2 - r.x1) * bytes));
+    }
+}
+
+/* Takes the rows in such an order that none is read that was written; of
+ * several rectangles each row is kept aside first. */
+void rfbCopyPixels(rfbScreenInfoPtr s, const sraRect *to, size_t count, int dx,
+                   int dy)
+{
+    const ptrdiff_t bytes = s->serverFormat.bitsPerPixel / 8;
+    const ptrdiff_t pitch = s->paddedWidthInBytes;
+    const sraRect one =
+        rfbCopied(s, count == 1 ? *to : rect_of(0, 0, 0, 0), dx, dy);
+    char aside[4 * RFB_MOST_COLUMNS];
+    if (one.x2 - one.x1 == s->width && pitch == s->width * bytes) {
+        /* whole rows */
+        memmove(s->frameBuffer + one.y1 * pitch,
+                s->frameBuffer + (one.y1 - dy) * pitch,
+                (size_t)((one.y2 - one.y1) * pitch));
+        return;
+    }
+    for (int i = larger(dy, 0); i < s->height + smaller(dy, 0); i++) {
+        const int y = dy > 0 ? s->height - 1 - i + dy : i;
+        const char *from = s->frameBuffer + (y - dy) * pitch;
+        if (count > 1) {
+            memcpy(aside, from, (size_t)(s->width * bytes));
+            from = aside;
+        }
+        copy_row(s, to, count, dx, dy, y, from);
+    }
+}
+
+/* ---- drawing ---- */
 
 static void put(rfbScreenInfoPtr s, int x, int y, rfbPixel colour)
 {
@@ -352,6 +432,13 @@ rfbBool rfbCheckPasswordByList(rfbClientPtr cl, const char *response, int len)
     (void)response;
     (void)len;
     return FALSE;
+}
+
+void rfbEncryptBytes(unsigned char *bytes, char *passwd)
+{
+    (void)passwd;
+    rfbErr("rfbEncryptBytes: there are no passwords here\n");
+    if (getrandom(bytes, CHALLENGESIZE, 0) != CHALLENGESIZE) abort();
 }
 
 void rfbDefaultPtrAddEvent(int buttonMask, int x, int y, rfbClientPtr cl)

@@ -142,7 +142,6 @@ OWN_HOOKS = ["fontsel"]  # whose keys go to the hooks of its box, which LibVNCSe
 # what valgrind finds of these programs themselves
 LEFT_OUT = {
     "simple": "it never writes its framebuffer",
-    "vncev": "it prints an address although its getpeername fails, as no viewer's socket is told",
     "pnmshow P5": "it leaves the end of its framebuffer unwritten where it pads its rows",
     "cursors": "it never frees its cursors' colours",
     "rotate P6": "it never releases its iterators",

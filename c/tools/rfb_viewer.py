@@ -1,6 +1,7 @@
 """rfb_viewer.py: what rfb_examples.py and rfb_programs.py have in common: how a program is compiled over rfb_compat.h and over
 LibVNCServer, a viewer that looks at it, and how many inputs it counted."""
 import functools
+import glob
 import os
 import re
 import socket
@@ -24,9 +25,10 @@ def changed(source, copy):
 @functools.cache
 def layer(prefix, room):
     """What a program over rfb_compat.h is compiled with, where vnc_server is installed below a prefix: that is compiled in a room first."""
-    objects = [f"{room}/{name}.o" for name in ("rfb_compat", "rfb_compat_draw")]
-    for path in objects:
-        if not compiles(f"-I{prefix}/include", "-c", "-o", path, f"{HERE}/{os.path.basename(path)[:-2]}.c"):
+    sources = sorted(glob.glob(f"{HERE}/rfb_compat*.c"))
+    objects = [f"{room}/{os.path.basename(path)[:-2]}.o" for path in sources]
+    for path, source in zip(objects, sources):
+        if not compiles(f"-I{prefix}/include", "-c", "-o", path, source):
             raise SystemExit("the layer does not compile")
     return [f"-I{HERE}", *objects, f"{prefix}/lib/libvnc_server.a", "-lpthread"]
 
