@@ -209,32 +209,24 @@ fn share<'a>(
     Ok((rest, canvas.screen().colour(0, 0).unwrap_or(0)))
 }
 
-/// Returns how many bytes are left behind each of three shares, with the letters, and whether changes are requested behind the third.
-fn shares(alloc: Global, canvas: &mut Canvas) -> Result<([(usize, u32); 3], bool), DrawEnd> {
+/// Returns whether each of three shares has a fill, and changes are requested behind the third.
+fn are_drawn_in_shares(alloc: Global, canvas: &mut Canvas) -> Result<bool, DrawEnd> {
     let mut picture = SourcePicture::new(alloc, 256, 256);
     picture.asked();
     let (rest, first) = share(&mut picture, canvas, FILLS)?;
     let (end, second) = share(&mut picture, canvas, rest)?;
     let is_early = picture.request() != Request::None;
     let (none, third) = share(&mut picture, canvas, end)?;
-    let found = [
-        (rest.len(), first),
-        (end.len(), second),
-        (none.len(), third),
-    ];
-    Ok((found, !is_early && picture.request() == Request::Changes))
+    let are_left = rest.len() == 40 && end.len() == 20 && none.is_empty();
+    let are_shown = first == 65 && second == 66 && third == 67;
+    Ok(are_left && are_shown && !is_early && picture.request() == Request::Changes)
 }
 
 #[test]
 fn a_large_piece_is_drawn_in_shares(rt: HostRuntime) -> Result<(), Fail> {
     let alloc = rt.alloc();
     let mut connections: Connections<Nobody> = Connections::new(alloc, config(alloc, (256, 256))?)?;
-    match shares(alloc, connections.canvas()) {
-        Ok((found, is_requested)) => {
-            assert!(rt; found == [(40, 65), (20, 66), (0, 67)]);
-            assert!(rt; is_requested);
-        }
-        Err(_) => assert!(rt; false, "a fill ended"),
-    }
+    let drawn = are_drawn_in_shares(alloc, connections.canvas());
+    assert!(rt; matches!(drawn, Ok(true)));
     Ok(())
 }
