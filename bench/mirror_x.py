@@ -201,23 +201,31 @@ def rate(viewer, seconds, room=bytearray(16 + 4 * WIDTH * HEIGHT)):
     return count / (time.monotonic() - began)
 
 
-def left_by_stuck(mirror, turns=8, seconds=0.5):
-    """Of the rates alone, and beside one that asked for much and reads nothing, those that a quarter are above: what else the machine does counts
-    for little then."""
+def left_by_stuck(mirror, turns=30, seconds=0.2):
+    """What is left of a viewer's rate beside one that asked for much and reads nothing: its rate there, over the mean of those just before and just
+    behind, when the other is one that asks for nothing; of so many turns the middle one. So neither what else the machine does nor a rate that
+    drifts counts for much."""
     viewer = Viewer(mirror.port)
     viewer.stream.settimeout(None)
-    rate(viewer, seconds)
-    alone, beside = [], []
+    rate(viewer, 5 * seconds)
+
+    def beside(asked):
+        other = Viewer(mirror.port)
+        other.stream.sendall(asked)
+        rate(viewer, seconds / 2)
+        found = rate(viewer, seconds)
+        other.file.close()
+        other.stream.close()
+        return found
+
+    idle, left = beside(b""), []
     for _ in range(turns):
-        alone.append(rate(viewer, seconds))
-        stuck = Viewer(mirror.port)
-        stuck.stream.sendall(WHOLE * 50)
-        time.sleep(seconds)
-        beside.append(rate(viewer, seconds))
-        stuck.stream.close()
-        time.sleep(seconds / 2)
+        stuck, next_idle = beside(WHOLE * 50), beside(b"")
+        left.append(2 * stuck / (idle + next_idle))
+        idle = next_idle
+    viewer.file.close()
     viewer.stream.close()
-    return sorted(beside)[turns * 3 // 4] / sorted(alone)[turns * 3 // 4]
+    return statistics.median(left)
 
 
 def main():
