@@ -17,21 +17,24 @@ use Rattle.receipts.specs.Histories.{heard_of, bytes_of}
 use Rattle.screen.specs.State.{state, history_by}
 use Rattle.screen.specs.declared.History.{History}
 use Rattle.screen.specs.declared.History.TheVariants.{Kept, NotKept}
-use Rattle.connections.specs.Waiting.{waiting_bytes, IsFew}
+use Rattle.connection.specs.Waiting.{waiting_bytes, IsFew}
 use Rattle.connections.specs.Drawing.{Surface, Draws, IsDrawnFrom}
-use Rattle.connections.specs.Among.{is_among}
+use Rattle.key_set.specs.Among.{is_among}
 use Rattle.connections.specs.Attending.{asks, IsSettled}
-use Rattle.connections.specs.Counting.{Counts, no_counts, counts_of, HasCounts}
-use Rattle.connections.specs.Recording.{none_yet}
+use Rattle.connection.specs.Counting.{Counts, no_counts, HasCounts}
+use Rattle.connections.specs.Counting.{counts_of}
+use Rattle.connection.specs.Recording.{none_yet}
 use Rattle.held_inputs.specs.Held.{Held, nothing}
 use Rattle.connections.specs.Telling.{Word, Leaves, Told, words_of, says, said_by, receipts_in, releases, held_of, words_after}
 use Rattle.connections.specs.Recorded.{IsRecordedBy, RecordsMore}
 use Rattle.connections.specs.RecordedLemmas.{records-same, recorded-same, recorded-more}
-use Rattle.connections.specs.Serving.{Began, Carried, ViewerConnection, Moves, breaks_off, has_work, IsServed, WasServed, IsOver, IsAttended, Serving, at_key, works_at, may_cut_at, may_ask_at, is_kept, Serves, GoesOn, GoesOnTelling, drawn_is_served}
+use Rattle.connections.specs.Serving.{Began, IsServed, WasServed, IsOver, IsAttended, Serving, at_key, works_at, may_cut_at, may_ask_at, is_kept, Serves, GoesOn, GoesOnTelling, drawn_is_served}
+use Rattle.connection.specs.Connection.{Carried, ViewerConnection, Moves, breaks_off, has_work}
 use Rattle.connections.specs.Turns.{Knows, IsTurnFrom, TakesTurn, TakesTurnTelling}
 use Rattle.connections.specs.TellingLemmas.{words-append, words-drawings, words-both, receipts-both, said-words, said-none, told-nothing, told-all, told-then, told-ended}
 use Rattle.connections.proofs.Given.{SameFor, bytes-own, heard-same, held-same, counts-same, same-others, same-drawings}
-use Rattle.connections.proofs.Turns.{served-same, drawn-on, moves-nothing}
+use Rattle.connections.proofs.Turns.{served-same, drawn-on}
+use Rattle.connection.specs.MovesLemmas.{moves-nothing}
 use Rattle.connections.proofs.Seen.{asks-drawings, asks-others, absent-drawings, absent-others}
 use Rattle.connections.proofs.Knowing.{settled-looked, settled-other, settled-drawn}
 

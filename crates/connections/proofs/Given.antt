@@ -22,9 +22,11 @@ use Rattle.screen.specs.HappeningLemmas.{one-happens, none-happens}
 use Rattle.screen.specs.State.{history_by}
 use Rattle.receipts.specs.Histories.{piece_of, pieces_of, heard_of, is_cut_of, cuts_of, bytes_of}
 use Rattle.held_inputs.specs.Held.{Held, nothing}
-use Rattle.connections.specs.Counting.{Counts, stopping, with_piece, with_cut, counted_in, counts_of}
+use Rattle.connection.specs.Counting.{Counts, stopping, with_piece, with_cut}
+use Rattle.connections.specs.Counting.{counted_in, counts_of}
 use Rattle.connections.specs.Drawing.{are_drawings}
-use Rattle.connections.specs.Telling.{held_behind, held_with, held_after, held_of}
+use Rattle.connection.specs.Holding.{held_behind}
+use Rattle.connections.specs.Telling.{held_with, held_after, held_of}
 use Rattle.connections.specs.Turns.{are_of}
 
 -- ---- one event more

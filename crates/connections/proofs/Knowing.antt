@@ -10,7 +10,8 @@ use Rattle.screen.specs.Answers.{is_owner, viewer_of}
 use Rattle.screen.specs.Refusals.{held_as_alone}
 use Rattle.screen.specs.State.{state}
 use Rattle.connections.specs.Drawing.{Surface, IsDrawnFrom, is_asking_on}
-use Rattle.connections.specs.Attending.{Known, asks, is_owed, next_bytes, IsSettled}
+use Rattle.connection.specs.Known.{Known}
+use Rattle.connections.specs.Attending.{asks, is_owed, next_bytes, IsSettled}
 use Rattle.connections.specs.Turns.{Knows}
 use Rattle.connections.proofs.Seen.{seen, seen-other, next-seen, asks-drawings, owed-drawings, asks-cut, owed-cut, cut-nothing, quiet-next, asks-held}
 

@@ -1,7 +1,4 @@
-pub mod Bytes
 pub mod Drawing
-pub mod Pieces
-pub mod Among
 pub mod Seen
 pub mod Knowing
 pub mod Resting
@@ -9,5 +6,4 @@ pub mod Given
 pub mod Releasing
 pub mod Turns
 pub mod Everyone
-pub mod Bounds
 pub mod Recorded

@@ -7,9 +7,10 @@ use Rattle.screen.specs.declared.Config.{Config}
 use Rattle.screen.specs.declared.Event.{Event}
 use Rattle.screen.specs.Alone.{some_bytes}
 use Rattle.receipts.specs.declared.Ended.{Ended}
-use Rattle.connections.specs.Among.{is_among}
-use Rattle.connections.specs.Waiting.{waiting_bytes}
-use Rattle.connections.specs.Serving.{Began, ViewerConnection, breaks_off, may_read, may_write, has_waiting, over, can_send, has_work, HasNothingToDo, IsAttended, Serving, Serves, at_key}
+use Rattle.key_set.specs.Among.{is_among}
+use Rattle.connection.specs.Waiting.{waiting_bytes}
+use Rattle.connections.specs.Serving.{Began, HasNothingToDo, IsAttended, Serving, Serves, at_key}
+use Rattle.connection.specs.Connection.{ViewerConnection, breaks_off, may_read, may_write, has_waiting, over, can_send, has_work}
 
 no-bytes : (l : List ℕ) → some_bytes l ≡ false → l ≡ []
 no-bytes [] h = refl

@@ -21,49 +21,27 @@ use Rattle.receipts.specs.Histories.{heard_of, bytes_of}
 use Rattle.screen.specs.State.{state}
 use Rattle.screen.specs.History.{accepted}
 use Rattle.screen.specs.Happening.{AllHappen}
-use Rattle.connections.specs.Waiting.{waiting_bytes, IsFew}
+use Rattle.connection.specs.Waiting.{waiting_bytes, IsFew}
 use Rattle.connections.specs.Recorded.{RecordsMore}
 use Rattle.connections.specs.RecordedLemmas.{records-same, records-then}
 use Rattle.connections.specs.Drawing.{Surface, IsDrawnFrom, Draws, is_asking_on}
-use Rattle.connections.specs.Attending.{Known, next_bytes}
-use Rattle.connections.specs.Counting.{Counts, with_piece, with_cut, counts_of}
-use Rattle.connections.specs.Reasons.{ended_by_read, known_by_read, ended_by_fault}
-use Rattle.connections.specs.declared.connection.Got.{Got}
-use Rattle.connections.specs.declared.connection.Got.TheVariants.{Piece, Nothing, Again, End, Failed, Wrong}
-use Rattle.connections.specs.Serving.{Carried, ViewerConnection, Moves, breaks_off, IsServed}
-use Rattle.connections.specs.Telling.{Word, Told, says, said_by, held_behind, held_of, told_behind, words_after, IsTold}
-use Rattle.connections.specs.Turns.{got_bytes, are_of, Knows, IsTurnFrom, HasRead, HearsPiece, TakesTurn, TakesTurnTelling}
+use Rattle.connection.specs.Known.{Known}
+use Rattle.connections.specs.Attending.{next_bytes}
+use Rattle.connection.specs.Counting.{Counts, with_piece, with_cut}
+use Rattle.connections.specs.Counting.{counts_of}
+use Rattle.connection.specs.Reasons.{ended_by_read, known_by_read, ended_by_fault}
+use Rattle.connection.specs.declared.connection.Got.{Got}
+use Rattle.connection.specs.declared.connection.Got.TheVariants.{Piece, Nothing, Again, End, Failed, Wrong}
+use Rattle.connection.specs.Connection.{Carried, ViewerConnection, Moves, breaks_off}
+use Rattle.connection.specs.MovesLemmas.{moves-nothing, moves-then}
+use Rattle.connections.specs.Serving.{IsServed}
+use Rattle.connections.specs.Telling.{Word, Told, says, said_by, held_of, told_behind, words_after, IsTold}
+use Rattle.connection.specs.Holding.{held_behind}
+use Rattle.connection.specs.Reasons.{got_bytes}
+use Rattle.connections.specs.Turns.{are_of, Knows, IsTurnFrom, HasRead, HearsPiece, TakesTurn, TakesTurnTelling}
 use Rattle.connections.specs.TellingLemmas.{words-append, words-drawings, told-nothing}
 use Rattle.connections.proofs.Given.{SameFor, bytes-own, heard-own, heard-same, held-own, held-same, counts-heard, counts-cut, counts-uncut, same-drawings, drawings-own}
 use Rattle.connections.proofs.Knowing.{knows-known, knows-looked, knows-drawn, knows-heard, knows-none, knows-cut}
-
--- ---- bytes that move
-
-kept-none : (kept : Option (List ℕ)) → kept ≡ option_map (λ bytes. bytes ++ []) kept
-kept-none None = refl
-kept-none (Some bytes) = ap (λ l. Some l) (sym (append-nil bytes))
-
-kept-twice : (kept : Option (List ℕ)) (w x : List ℕ) → option_map (λ bytes. bytes ++ x) (option_map (λ bytes. bytes ++ w) kept) ≡ option_map (λ bytes. bytes ++ (w ++ x)) kept
-kept-twice None w x = refl
-kept-twice (Some bytes) w x = ap (λ l. Some l) (append_assoc bytes w x)
-
-pub moves-nothing : (a : Carried) → Moves a a [] []
-moves-nothing a = record { read = Consumes-nil a.unread; written = Appends-nil a.written; sent = kept-none a.sent }
-
--- none of them moves where they stay
-pub moves_kept : (a b : Carried) → Keeps a.unread b.unread → Keeps a.written b.written → b.sent ≡ a.sent → Moves a b [] []
-moves_kept a b read written sent = record {
-  read = Consumes-kept a.unread a.unread b.unread [] (Consumes-nil a.unread) read;
-  written = Appends-kept a.written a.written b.written [] (Appends-nil a.written) written;
-  sent = sent ∙ kept-none a.sent;
-}
-
-pub moves-then : (a b d : Carried) (r s w x : List ℕ) → Moves a b r w → Moves b d s x → Moves a d (r ++ s) (w ++ x)
-moves-then a b d r s w x m n = record {
-  read = Consumes-trans a.unread b.unread d.unread r s m.read n.read;
-  written = Appends-trans a.written b.written d.written w x m.written n.written;
-  sent = n.sent ∙ ap (option_map (λ bytes. bytes ++ x)) m.sent ∙ kept-twice a.sent w x;
-}
 
 moves-read : (a b d : Carried) (r s w : List ℕ) → Moves a b (r ++ []) w → Moves b d s [] → Moves a d (r ++ s) w
 moves-read a b d r s w m n =
@@ -469,15 +447,6 @@ turn-nothing a e f h known live same cut ask moved ended c list began v said sin
 
 ended-so : (f h : ViewerConnection) (o : Option Ended) → h ≡ record f { ended = o } → h ≡ record f { ended = h.ended }
 ended-so f h o is = is ∙ ap (λ o. record f { ended = o }) (sym (ap (λ (x : ViewerConnection). x.ended) is))
-
--- what is known of a read says whether it was full
-pub full_as_known : (got : Got) (full : Bool) (now : ℕ) (known : Known) → known_by_read got full now known ≡ known_by_read got (known_by_read got full now known).was_full now known
-full_as_known (Piece count) full now known = refl
-full_as_known Nothing full now known = refl
-full_as_known Again full now known = refl
-full_as_known End full now known = refl
-full_as_known Failed full now known = refl
-full_as_known (Wrong code) full now known = refl
 
 -- a read that gave no piece
 pub turn-missed : (a : Surface) (e h : ViewerConnection) (got : Got) (full : Bool) (now : ℕ) (room : List ℕ) → ((count : ℕ) → got ≡ Piece count → ⊥) → e.ended ≡ None

@@ -1,6 +1,6 @@
 -- What becomes of the connections where their screen is drawn on.
 use Rattle.std.specs.Borrow.{Lends, MutBor, Fml, RattleType}
-use Rattle.connections.specs.declared.transport.Transport.{Ghosts}
+use Rattle.connection.specs.declared.transport.Transport.{Ghosts}
 use Rattle.connections.specs.Drawing.{Surface}
 use Rattle.connections.specs.Serving.{Serving}
 use Rattle.connections.specs.contracts.connections.Connections.{the_row}

@@ -1,8 +1,6 @@
-pub mod Waiting
 pub mod Recorded
 pub mod RecordedLemmas
 pub mod Drawing
-pub mod Among
 pub mod Attending
 pub mod Counting
 pub mod Telling
@@ -10,7 +8,3 @@ pub mod TellingLemmas
 pub mod Serving
 pub mod Turns
 pub mod Lending
-pub mod Recording
-pub mod Carrying
-pub mod Bounds
-pub mod Reasons

@@ -1,11 +1,10 @@
--- What the connections of a screen's viewers hold, and what that is by the events of the screen.
-use Rattle.std.specs.Prelude.{IfSome, length, ◌≡◌, ◌≢◌, ◌⊎◌, ℕ, ◌≤◌, ◌<◌, Result, Bool, true, false, not, ◌&&◌, ◌||◌, if◌then◌else◌, is_none, is_some, List, [], ◌++◌, Option, Some, None, option_map, unwrap_or, slice_index_or}
+-- What the connections of a screen's viewers are by the events of the screen.
+use Rattle.std.specs.Prelude.{IfSome, length, ◌≡◌, ◌≢◌, ◌⊎◌, ℕ, ◌≤◌, ◌<◌, Result, Bool, true, false, ◌&&◌, List, [], ◌++◌, Option, Some, None, option_map, unwrap_or, slice_index_or}
 use Rattle.std.specs.Io.KnownBytes.{Appends, Consumes}
 use Rattle.screen.specs.declared.Config.{Config}
 use Rattle.screen.specs.declared.Event.{Event}
 use Rattle.screen.specs.declared.History.{History}
 use Rattle.screen.specs.declared.History.TheVariants.{Kept, NotKept}
-use Rattle.screen.specs.Alone.{some_bytes}
 use Rattle.screen.specs.Answers.{viewer_of}
 use Rattle.receipts.specs.declared.Receipt.{Receipt}
 use Rattle.receipts.specs.declared.Ended.{Ended}
@@ -14,24 +13,17 @@ use Rattle.receipts.specs.Checking.{may_break_off}
 use Rattle.receipts.specs.Histories.{bytes_of, heard_of}
 use Rattle.screen.specs.Reading.{is_open_rest}
 use Rattle.screen.specs.State.{State, state, viewer_at, history_by}
-use Rattle.connections.specs.declared.connections.Readiness.{Readiness}
-use Rattle.connections.specs.Waiting.{Waiting, waiting_bytes, IsFew}
+use Rattle.connection.specs.Waiting.{waiting_bytes, IsFew}
 use Rattle.connections.specs.Drawing.{Surface, IsDrawnFrom}
 use Rattle.connections.specs.Recorded.{IsRecordedBy}
-use Rattle.connections.specs.Among.{is_among}
-use Rattle.held_inputs.specs.Held.{Held, nothing}
+use Rattle.key_set.specs.Among.{is_among}
+use Rattle.held_inputs.specs.Held.{nothing}
 use Rattle.connections.specs.Telling.{Told, words_of, receipts_in, held_of, words_after, IsTold}
-use Rattle.connections.specs.Attending.{Known, noted, floods, asks, next_bytes, IsSettled}
-use Rattle.connections.specs.Counting.{Counts, no_counts, counts_of, HasCounts}
-
--- what a transport carries
-pub record Carried : Type 0 where
-  -- what it has still to give, where that is known
-  pub unread : Option (List ℕ)
-  -- what was written to it, where that is known
-  pub written : Option (List ℕ)
-  -- what was written to it, where that is kept
-  pub sent : Option (List ℕ)
+use Rattle.connection.specs.Known.{floods}
+use Rattle.connections.specs.Attending.{asks, next_bytes, IsSettled}
+use Rattle.connection.specs.Counting.{no_counts, HasCounts}
+use Rattle.connection.specs.Connection.{Carried, ViewerConnection, Moves, breaks_off, may_read, has_work}
+use Rattle.connections.specs.Counting.{counts_of}
 
 -- how it began
 pub record Began : Type 0 where
@@ -39,76 +31,6 @@ pub record Began : Type 0 where
   pub carried : ℕ → Carried
   -- where there is a record, what its writer held, where that is known
   pub held : Option (Option (List ℕ))
-
--- a viewer's connection
-pub record ViewerConnection : Type 0 where
-  pub number : ℕ
-  -- what its transport carries
-  pub carried : Carried
-  -- what the viewer was given and is not written yet
-  pub waiting : Waiting
-  -- the keys and buttons that the viewer holds down
-  pub held : Held
-  -- why the viewer ended, if it did
-  pub ended : Option Ended
-  -- what is known of the connection
-  pub known : Known
-  -- what was counted of the viewer
-  pub counts : Counts
-  -- for how many more bytes that are heard there is room, where they are kept
-  pub room : ℕ
-
--- between two moments of a transport these bytes were read, and those were written
-pub record Moves (before now : Carried) (got gave : List ℕ) : Type 0 where
-  pub read : Consumes before.unread now.unread got
-  pub written : Appends before.written now.written gave
-  pub sent : now.sent ≡ option_map (λ bytes. bytes ++ gave) before.sent
-
--- whether a viewer ended so that what waited for it may not have been written
-abbrev pub breaks_off : Option Ended → Bool
-breaks_off None = false
-breaks_off (Some ended) = may_break_off ended
-
--- a connection of which this is known too
-abbrev pub noted_by : Readiness → ViewerConnection → ViewerConnection
-noted_by found connection = record connection { known = noted found connection.known }
-
--- so many more bytes that are heard can be kept, where they are
-abbrev pub CanKeep : ℕ → ViewerConnection → Type 0
-CanKeep more connection = IfSome connection.counts.heard (λ _. more ≤ connection.room)
-
--- why it ended: for this reason, unless it ended before
-abbrev pub ended_or : Option Ended → Ended → Option Ended
-ended_or None reason = Some reason
-ended_or (Some ended) reason = Some ended
-
--- a connection that ended so
-abbrev pub ended_by : Ended → ViewerConnection → ViewerConnection
-ended_by reason connection = record connection { ended = ended_or connection.ended reason }
-
--- a read may give something
-abbrev pub may_read : ViewerConnection → Bool
-may_read connection = is_none connection.ended && connection.known.may_read
-
--- a write may take something
-abbrev pub may_write : ViewerConnection → Bool
-may_write connection = not (breaks_off connection.ended) && connection.known.may_write
-
--- bytes wait to be written
-abbrev pub has_waiting : ViewerConnection → Bool
-has_waiting connection = some_bytes (waiting_bytes connection.waiting)
-
--- why it ended, where nothing is left to be done for it but to part with it
-abbrev pub over : ViewerConnection → Option Ended
-over connection = if breaks_off connection.ended || not (has_waiting connection) then connection.ended else None
-
--- bytes can be written to it at once, or an update be cut for it
-abbrev pub can_send : ViewerConnection → Bool
-can_send connection = may_write connection && (connection.known.may_cut || has_waiting connection)
-
--- something can be done for it at once
-abbrev pub has_work : ViewerConnection → Bool
-has_work connection = (may_read connection || can_send connection) || is_some (over connection)
 
 -- nothing can be done for a connection until its transport is found ready or something is drawn
 pub record HasNothingToDo (c : Config) (list : List Event) (connection : ViewerConnection) : Type 0 where

@@ -10,6 +10,7 @@ use Rattle.screen.specs.Answers.{answer_to}
 use Rattle.receipts.specs.declared.Receipt.{Receipt}
 use Rattle.receipts.specs.Histories.{piece_of}
 use Rattle.held_inputs.specs.Held.{Held, nothing, after, roomy, room_release}
+use Rattle.connection.specs.Holding.{held_behind}
 
 -- what events say: an input of a viewer, or that a viewer leaves
 pub data Word : Type 0 where
@@ -51,11 +52,6 @@ abbrev pub receipts_in : List Told → List Receipt
 receipts_in [] = []
 receipts_in (Said v input ∷ told) = receipts_in told
 receipts_in (Left receipt ∷ told) = receipt ∷ receipts_in told
-
--- The keys and buttons that are held down behind inputs. Before each the earliest of 512 keys is let go, so that another may go down.
-abbrev pub held_behind : Held → List Input → Held
-held_behind held [] = held
-held_behind held (input ∷ inputs) = held_behind (after (roomy held) input) inputs
 
 -- what an application is told of an input of a viewer that holds these: the release of the key that is let go before it, if one is, and the input
 abbrev pub told_for : Held → Input → List Input

@@ -13,7 +13,9 @@ use Rattle.screen.specs.Alone.{owner_of}
 use Rattle.screen.specs.Answers.{is_drawing}
 use Rattle.connections.specs.Drawing.{are_drawings}
 use Rattle.held_inputs.specs.Held.{Held, after, roomy}
-use Rattle.connections.specs.Telling.{Word, Says, Leaves, Told, Said, Left, word_of, words_of, says, said_by, inputs_in, inputs_told, receipts_in, held_behind, told_for, told_behind, words_by, words_after, IsTold, Stays}
+use Rattle.connections.specs.Telling.{Word, Says, Leaves, Told, Said, Left, word_of, words_of, says, said_by, inputs_in, inputs_told, receipts_in, told_for, told_behind, words_by, words_after, IsTold, Stays}
+use Rattle.connection.specs.Holding.{held_behind}
+use Rattle.connection.specs.HoldingLemmas.{held-append, held-more}
 
 pub words-append : (c : Config) (before es fs : List Event) → words_after c before (es ++ fs) ≡ words_after c before es ++ words_after c (before ++ es) fs
 words-append c before [] fs = ap (λ l. words_after c l fs) (sym (append-nil before))
@@ -43,20 +45,10 @@ words-drawings c before (e ∷ es) h =
     let p = and_parts (is_drawing (owner_of e)) (are_drawings es) h in
     ap (λ l. l ++ words_after c (before ++ e ∷ []) es) (drawing-none c before e p.0) ∙ words-drawings c (before ++ e ∷ []) es p.1
 
--- what is held behind inputs, and told of them, behind others
-pub held-append : (held : Held) (first rest : List Input) → held_behind held (first ++ rest) ≡ held_behind (held_behind held first) rest
-held-append held [] rest = refl
-held-append held (i ∷ first) rest = held-append (after (roomy held) i) first rest
-
 pub told-append : (held : Held) (first rest : List Input) → told_behind held (first ++ rest) ≡ told_behind held first ++ told_behind (held_behind held first) rest
 told-append held [] rest = refl
 told-append held (i ∷ first) rest =
     ap (λ l. told_for held i ++ l) (told-append (after (roomy held) i) first rest) ∙ sym (append_assoc (told_for held i) (told_behind (after (roomy held) i) first) (told_behind (held_behind (after (roomy held) i) first) rest))
-
--- of one input more
-pub held-more : (held : Held) (inputs : List Input) (k : ℕ) (input : Input) → k < length inputs → get_or inputs k input ≡ input → held_behind held (take (k + 1) inputs) ≡ after (roomy (held_behind held (take k inputs))) input
-held-more held inputs k input inside is =
-    ap (held_behind held) (take_more inputs k input inside ∙ ap (λ i. take k inputs ++ i ∷ []) is) ∙ held-append held (take k inputs) (input ∷ [])
 
 pub told-for-more : (held : Held) (inputs : List Input) (k : ℕ) (input : Input) → k < length inputs → get_or inputs k input ≡ input
     → told_behind held (take (k + 1) inputs) ≡ told_behind held (take k inputs) ++ told_for (held_behind held (take k inputs)) input

@@ -7,25 +7,16 @@ use Rattle.screen.specs.declared.Input.{Input}
 use Rattle.screen.specs.Alone.{owner_of}
 use Rattle.screen.specs.Answers.{is_owner, viewer_of}
 use Rattle.screen.specs.State.{state}
-use Rattle.connections.specs.declared.connection.Got.{Got}
-use Rattle.connections.specs.declared.connection.Got.TheVariants.{Piece}
 use Rattle.connections.specs.Drawing.{Surface}
-use Rattle.connections.specs.Attending.{Known, asks, IsSettled}
+use Rattle.connection.specs.Known.{Known}
+use Rattle.connections.specs.Attending.{asks, IsSettled}
 use Rattle.connections.specs.Counting.{counts_of}
 use Rattle.connections.specs.Recorded.{RecordsMore}
 use Rattle.receipts.specs.Histories.{bytes_of, heard_of}
 use Rattle.connections.specs.Telling.{Word, Told, says, said_by, held_of, words_after, IsTold}
-use Rattle.connections.specs.Waiting.{waiting_bytes, IsFew}
-use Rattle.connections.specs.Serving.{Carried, ViewerConnection, Moves, IsServed}
-
--- the bytes that a read gave
-abbrev pub got_bytes : Got → List ℕ → List ℕ
-got_bytes (Piece count) room = take count room
-got_bytes _ room = []
-
-abbrev pub IsWithin : Got → List ℕ → Type 0
-IsWithin (Piece count) room = count ≤ length room
-IsWithin _ room = Unit {0}
+use Rattle.connection.specs.Waiting.{waiting_bytes, IsFew}
+use Rattle.connection.specs.Connection.{Carried, ViewerConnection, Moves}
+use Rattle.connections.specs.Serving.{IsServed}
 
 -- each event of a list is a drawing call, or this viewer's own
 abbrev pub are_of : ℕ → List Event → Bool

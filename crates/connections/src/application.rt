@@ -5,7 +5,7 @@ ghost use Rattle.connections.specs.Telling.{Told, Said, Left, Stays};
 ghost use Rattle.connections.specs.Drawing.{Draws};
 
 use crate::canvas::Canvas;
-use crate::connections::Readiness;
+use connection::Readiness;
 use receipts::Receipt;
 use screen::{Input, ScreenError};
 use std::time::Duration;

@@ -6,24 +6,24 @@ ghost use Rattle.std.specs.Borrow.{sem};
 ghost use Rattle.screen.specs.declared.Config.{Config};
 ghost use Rattle.screen.specs.declared.Event.{Event};
 ghost use Rattle.screen.specs.Alone.{config_refusal};
-ghost use Rattle.connections.specs.Among.{is_among};
+ghost use Rattle.key_set.specs.Among.{is_among};
 ghost use Rattle.connections.specs.Recorded.{IsFlushed, IsRecordedBy, held_by, is_broken};
 ghost use Rattle.record_writer.specs.Held.{bytes_held};
 ghost use Rattle.receipts.specs.declared.Ended.TheVariants as ended;
-ghost use Rattle.connections.specs.Serving.{Began, ended_by, GoesOn, GoesOnTelling, HasNothingToDo, IsOver, Serves, ViewerConnection, WasServed, at_key, floods_at, is_kept, is_open_on, may_cut_at, noted_by, number_at, works_at};
-ghost use Rattle.connections.specs.Recording.{none_yet};
+ghost use Rattle.connections.specs.Serving.{Began, GoesOn, GoesOnTelling, HasNothingToDo, IsOver, Serves, WasServed, at_key, floods_at, is_kept, is_open_on, may_cut_at, number_at, works_at};
+ghost use Rattle.connection.specs.Connection.{ended_by, ViewerConnection, noted_by};
+ghost use Rattle.connection.specs.Recording.{none_yet};
 ghost use Rattle.connections.specs.Telling.{Leaves, Left, words_after, releases, says, said_by, IsTold, Stays};
 ghost use Rattle.connections.specs.Lending.{lends_canvas};
 
 use crate::application::Application;
 use crate::canvas::Canvas;
-use crate::connection::Connection;
-use crate::keys::KeySet;
 use crate::listing::{keep_asking, keep_busy, key_of, list_keys};
 use crate::record::Record;
-use crate::transport::Transport;
 use crate::turn::{PIECE, listen, release, send};
+use connection::{Connection, Departed, Readiness, Transport};
 use held_inputs::HeldInputs;
+use key_set::KeySet;
 use receipts::{Ended, Receipt};
 use record_writer::RecordWriter;
 use screen::{Config, History, Screen, ScreenError, config_refusal, held_as_alone};
@@ -40,17 +40,6 @@ const TURNS: u32 = 8;
 /// The same for one that said much of late.
 const LONG_TURNS: u32 = 32;
 
-/// What a transport was found ready for. It may be out of date: a call that would wait says so.
-#[derive(Clone, Copy, Debug, PartialEq, Eq)]
-pub struct Readiness {
-    /// A read may give bytes.
-    pub may_read: bool,
-    /// A write may take bytes.
-    pub may_write: bool,
-    /// The peer sends no more: what it sent can be read to its end.
-    pub is_hung_up: bool,
-}
-
 /// Returns whether what moves is kept, beside the history.
 fn is_kept(history: History) -> bool
     ensures { result ≡ is_kept history }
@@ -66,17 +55,6 @@ fn is_open(screen: &Screen, viewer: u64) -> bool
         Ok(is_open) => is_open,
         Err(_) => false,
     }
-}
-
-/// What is left of a viewer that ended.
-#[derive(Drop)]
-pub struct Departed<T> {
-    /// Its transport.
-    pub transport: T,
-    /// The keys and buttons that it held down.
-    pub held: HeldInputs,
-    /// What was heard of it and sent to it, and why it ended.
-    pub receipt: Receipt,
 }
 
 /// A screen with its viewers' connections.

@@ -14,24 +14,19 @@
 #![tactic(auto)]
 
 mod application;
-mod backlog;
 mod canvas;
-mod connection;
 mod connections;
-mod keys;
 mod laws;
 mod listing;
 mod record;
-mod recording;
-mod transport;
 mod turn;
 
 pub use application::Application;
 pub use canvas::Canvas;
-pub use connections::{Connections, Departed, Readiness};
+pub use connection::{Both, Departed, Readiness, Transport};
+pub use connections::Connections;
 pub use held_inputs::HeldInputs;
 pub use laws::drawn_is_served;
 pub use receipts::{Ended, Receipt};
 pub use record_writer::{PrivateFile, RecordWriter};
 pub use screen::{Config, Fault, History, Input, Listed, Rect, Region, Screen, ScreenError};
-pub use transport::{Both, Transport};

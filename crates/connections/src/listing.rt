@@ -1,12 +1,11 @@
 //! Which connections are to be looked at.
 
 ghost use Rattle.std.specs.Prelude.{◌≡◌, ℕ, ◌<◌, ◌⊎◌, Some, None, ◌≢◌, true, false, IfSome, OnOk, length, slice_index_or};
-ghost use Rattle.connections.specs.Among.{is_among};
+ghost use Rattle.key_set.specs.Among.{is_among};
 ghost use Rattle.connections.specs.Serving.{at_key, number_at, may_ask_at, may_cut_at, works_at};
 
-use crate::connection::Connection;
-use crate::keys::KeySet;
-use crate::transport::Transport;
+use connection::{Connection, Transport};
+use key_set::KeySet;
 use slab::Slab;
 use std::alloc::AllocError;
 

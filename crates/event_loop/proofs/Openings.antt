@@ -5,7 +5,8 @@ use Rattle.std.proofs.lemmas.Bool.Decides.{eqb_tells}
 use Rattle.receipts.specs.declared.Ended.{Ended}
 use Rattle.receipts.specs.declared.Ended.TheVariants.{Closed}
 use Rattle.connections.specs.Drawing.{Surface}
-use Rattle.connections.specs.Serving.{Serving, ViewerConnection, at_key, number_at, ended_or, ended_by}
+use Rattle.connections.specs.Serving.{Serving, at_key, number_at}
+use Rattle.connection.specs.Connection.{ViewerConnection, ended_or, ended_by}
 use Rattle.event_loop.specs.declared.opening.Newcomer.{Newcomer}
 use Rattle.event_loop.specs.Parting.{IsEndedAt}
 use Rattle.event_loop.specs.Patience.{Each, IsLate, LetsGo, from_opening, is_opening, opens_on}

@@ -15,8 +15,9 @@ use Rattle.screen.specs.declared.Input.{Input}
 use Rattle.receipts.specs.declared.Receipt.{Receipt}
 use Rattle.connections.specs.Telling.{Leaves, Told, Left, words_of, says, said_by, receipts_in, words_after, Stays, IsTold}
 use Rattle.connections.specs.TellingLemmas.{words-append, words-both, receipts-both, said-words, said-none, told-nothing, told-all, told-then, told-ended}
-use Rattle.connections.specs.Recording.{none_yet}
-use Rattle.connections.specs.Serving.{Began, Carried, Serving, Serves, WasServed, GoesOn, GoesOnTelling}
+use Rattle.connection.specs.Recording.{none_yet}
+use Rattle.connections.specs.Serving.{Began, Serving, Serves, WasServed, GoesOn, GoesOnTelling}
+use Rattle.connection.specs.Connection.{Carried}
 use Rattle.event_loop.specs.Admitting.{GoesOnFrom}
 use Rattle.event_loop.specs.Sockets.{sockets, sockets_and, IsOfLeaver, IsAccountOf, GoesOnServing, GoesOnServingTelling}
 

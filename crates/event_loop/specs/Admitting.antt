@@ -3,7 +3,8 @@ use Rattle.std.specs.Prelude.{◌≡◌, ℕ, ◌+◌, ◌-◌, ◌^◌, min, Li
 use Rattle.screen.specs.declared.Config.{Config}
 use Rattle.screen.specs.declared.Event.{Event}
 use Rattle.connections.specs.Telling.{words_after}
-use Rattle.connections.specs.Serving.{Began, Carried, Serving, Serves, number_at}
+use Rattle.connections.specs.Serving.{Began, Serving, Serves, number_at}
+use Rattle.connection.specs.Connection.{Carried}
 use Rattle.event_loop.specs.declared.viewers.Admission.{Admission}
 use Rattle.event_loop.specs.declared.viewers.Admission.TheVariants.{Viewer, TurnedAway, Refused}
 

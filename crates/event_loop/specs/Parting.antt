@@ -1,7 +1,8 @@
 -- Which viewer is let go.
 use Rattle.std.specs.Prelude.{◌≡◌, ◌≢◌, ℕ, Some, option_map}
 use Rattle.receipts.specs.declared.Ended.{Ended}
-use Rattle.connections.specs.Serving.{Serving, at_key, number_at, ended_by}
+use Rattle.connections.specs.Serving.{Serving, at_key, number_at}
+use Rattle.connection.specs.Connection.{ended_by}
 
 -- the connection with a key ended for this reason, unless it ended before
 abbrev pub IsEndedAt : Ended → ℕ → Serving → Serving → Type 0

@@ -6,7 +6,7 @@ use Rattle.screen.specs.declared.Event.{Event}
 use Rattle.screen.specs.declared.Event.TheVariants.{Close}
 use Rattle.receipts.specs.declared.Receipt.{Receipt}
 use Rattle.connections.specs.Telling.{Told, words_of, receipts_in, words_after, IsTold}
-use Rattle.connections.specs.Recording.{none_yet}
+use Rattle.connection.specs.Recording.{none_yet}
 use Rattle.connections.specs.Serving.{Began, Serving, is_kept, Serves, WasServed}
 
 -- no byte of a socket is known, but what was written to it is kept, where the history is; and what a record's writer held before, where there is a record

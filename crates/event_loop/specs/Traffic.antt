@@ -1,7 +1,8 @@
 -- What moved of a viewer.
 use Rattle.std.specs.Prelude.{◌≡◌, ℕ, ◌+◌, ◌-◌, ◌*◌, ◌^◌, min, Result, Ok, Err, Some}
 use Rattle.std.specs.Duration.{as_nanos}
-use Rattle.connections.specs.Serving.{Serving, ViewerConnection, at_key}
+use Rattle.connections.specs.Serving.{Serving, at_key}
+use Rattle.connection.specs.Connection.{ViewerConnection}
 use Rattle.event_loop.specs.declared.traffic.Traffic.{Traffic}
 
 -- a count with so many more as a read or a write moved; it stops at 2 ^ 64 - 1

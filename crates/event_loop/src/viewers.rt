@@ -4,7 +4,7 @@ ghost use Rattle.std.specs.Prelude.{◌≡◌, ◌≢◌, ℕ, ◌+◌, ◌-◌,
 ghost use Rattle.std.specs.Duration.{as_nanos};
 ghost use Rattle.std.specs.Time.{instant_nanos};
 ghost use Rattle.receipts.specs.declared.Ended.TheVariants as ended;
-ghost use Rattle.connections.specs.Recording.{none_yet};
+ghost use Rattle.connection.specs.Recording.{none_yet};
 ghost use Rattle.connections.specs.Telling.{Stays};
 ghost use Rattle.connections.specs.Serving.{GoesOn, at_key, number_at};
 ghost use Rattle.event_loop.specs.declared.viewers.Admission.TheVariants as admission;

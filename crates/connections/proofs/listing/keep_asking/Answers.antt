@@ -1,7 +1,7 @@
 use Rattle.std.proofs.Common.{◌≡◌, ℕ, true, arith}
-use Rattle.connections.specs.Among.{is_among}
+use Rattle.key_set.specs.Among.{is_among}
 use Rattle.connections.specs.Serving.{may_ask_at}
-use Rattle.connections.proofs.Among.{each-among}
+use Rattle.key_set.specs.AmongLemmas.{each-among}
 use Rattle.connections.proofs.listing.keep_asking.Goals as goal
 
 pub returns-clause-kept : goal.returns-clause-kept

@@ -1,7 +1,7 @@
 use Rattle.std.proofs.Common.{◌≡◌, ◌⊎◌, inl, inr, true≢false, ℕ, List, true, Option, Some, slice_index_or, sym, ap, ◌∙◌, subst, arith, length}
-use Rattle.connections.specs.Among.{is_among}
+use Rattle.key_set.specs.Among.{is_among}
 use Rattle.connections.specs.Serving.{works_at}
-use Rattle.connections.proofs.Among.{each-among, each-more}
+use Rattle.key_set.specs.AmongLemmas.{each-among, each-more}
 use Rattle.connections.proofs.listing.keep_busy.Goals as goal
 
 pub loop-key-init : goal.loop-key-init

@@ -1,6 +1,6 @@
 use Rattle.std.proofs.Common.{◌≡◌, inl, inr, true, ap, ◌∙◌, rules}
 use Rattle.connections.specs.Serving.{works_at}
-use Rattle.connections.proofs.Among.{among-came, came-by}
+use Rattle.key_set.specs.AmongLemmas.{among-came, came-by}
 use Rattle.connections.proofs.listing.keep_if_busy.Goals as goal
 
 pub returns-clause-work : goal.returns-clause-work

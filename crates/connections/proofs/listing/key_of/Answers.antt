@@ -1,7 +1,7 @@
 use Rattle.std.proofs.Common.{zero, arith, refl, Some, ap, inl, inr, ◌∙◌, sym, subst, Contains}
 use Rattle.std.specs.Prelude.{option_map}
 use Rattle.slab.proofs.SlabLemmas.{Contains-cons, Contains-cons_cases, Contains-entries}
-use Rattle.connections.specs.Serving.{ViewerConnection}
+use Rattle.connection.specs.Connection.{ViewerConnection}
 use Rattle.connections.proofs.listing.key_of.Goals as goal
 
 pub loop-key-init : goal.loop-key-init

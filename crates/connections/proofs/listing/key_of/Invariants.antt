@@ -1,5 +1,6 @@
 use Rattle.std.proofs.Common.{◌≡◌, ◌≢◌, ◌⊎◌, ℕ, Some, Contains}
-use Rattle.connections.specs.Serving.{ViewerConnection, at_key}
+use Rattle.connection.specs.Connection.{ViewerConnection}
+use Rattle.connections.specs.Serving.{at_key}
 use Rattle.connections.proofs.listing.key_of.Given as goal
 
 -- each connection is another viewer's, or among the entries that are left; and these are connections

@@ -1,6 +1,6 @@
 use Rattle.std.proofs.Common.{ap, inl, inr, ◌∙◌, sym}
 use Rattle.slab.proofs.SlabLemmas.{Contains-cons_cases, Contains-entries}
-use Rattle.connections.specs.Among.{is_among}
+use Rattle.key_set.specs.Among.{is_among}
 use Rattle.connections.proofs.listing.list_keys.Goals as goal
 
 pub loop-key-init : goal.loop-key-init

@@ -1,6 +1,7 @@
 use Rattle.std.proofs.Common.{◌≡◌, ◌⊎◌, ℕ, true, Some, Contains}
-use Rattle.connections.specs.Among.{is_among}
-use Rattle.connections.specs.Serving.{ViewerConnection, at_key}
+use Rattle.key_set.specs.Among.{is_among}
+use Rattle.connection.specs.Connection.{ViewerConnection}
+use Rattle.connections.specs.Serving.{at_key}
 use Rattle.connections.proofs.listing.list_keys.Given as goal
 
 -- each key with a connection is on the agenda, or among the entries that are left

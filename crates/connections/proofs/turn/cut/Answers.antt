@@ -2,9 +2,9 @@ use Rattle.std.specs.Prelude.{◌&&◌}
 use Rattle.std.proofs.Common.{◌≡◌, ◌++◌, Option, None, sym, ap, ◌∙◌, rules}
 use Rattle.receipts.specs.declared.Ended.{Ended}
 use Rattle.viewer.specs.Given.{bytes_given}
-use Rattle.connections.specs.Attending.{Known}
+use Rattle.connection.specs.Known.{Known}
 use Rattle.connections.specs.Drawing.{Surface}
-use Rattle.connections.specs.Serving.{ViewerConnection}
+use Rattle.connection.specs.Connection.{ViewerConnection}
 use Rattle.connections.proofs.Recorded.{cut-more, cut-happens, uncut-more, uncut-happens}
 use Rattle.connections.proofs.Turns.{turn-cut, turn-uncut, turn-ended}
 use Rattle.connections.proofs.turn.cut.Goals as goal

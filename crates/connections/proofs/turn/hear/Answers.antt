@@ -2,16 +2,17 @@ use Rattle.std.proofs.Common.{◌≡◌, Ok, Some, refl, sym, ap, ◌∙◌, sub
 use Rattle.std.specs.Prelude.{◌⊎◌}
 use Rattle.screen.specs.declared.ScreenError.{ScreenError}
 use Rattle.receipts.specs.declared.Ended.TheVariants.{Memory}
-use Rattle.connections.specs.Attending.{Known}
+use Rattle.connection.specs.Known.{Known}
 use Rattle.connections.specs.Drawing.{Surface}
 use Rattle.held_inputs.specs.Held.{Held}
-use Rattle.connections.specs.Waiting.{Waiting, waiting_bytes, IsFew}
-use Rattle.connections.specs.Telling.{said_by, held_behind, told_behind, IsTold}
-use Rattle.connections.specs.Serving.{ViewerConnection, breaks_off}
+use Rattle.connection.specs.Waiting.{Waiting, waiting_bytes, IsFew}
+use Rattle.connections.specs.Telling.{said_by, told_behind, IsTold}
+use Rattle.connection.specs.Holding.{held_behind}
+use Rattle.connection.specs.Connection.{ViewerConnection, breaks_off}
 use Rattle.screen.specs.Answers.{answer_to}
 use Rattle.screen.specs.declared.Event.TheVariants.{Hear}
-use Rattle.connections.specs.Counting.{with_piece}
-use Rattle.connections.specs.Reasons.{ended_by_fault}
+use Rattle.connection.specs.Counting.{with_piece}
+use Rattle.connection.specs.Reasons.{ended_by_fault}
 use Rattle.connections.proofs.Recorded.{heard-more, heard-happens}
 use Rattle.connections.proofs.Turns.{turn-unheard, turn-heard, ended-memory, ended-fault}
 use Rattle.connections.proofs.turn.hear.Goals as goal

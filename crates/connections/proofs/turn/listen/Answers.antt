@@ -1,8 +1,8 @@
 use Rattle.std.proofs.Common.{◌≡◌, None, Ok, refl, rules}
 use Rattle.screen.specs.declared.ScreenError.{ScreenError}
-use Rattle.connections.specs.Attending.{Known}
-use Rattle.connections.specs.Reasons.{known_by_read}
-use Rattle.connections.specs.declared.connection.Got.TheVariants.{Piece}
+use Rattle.connection.specs.Known.{Known}
+use Rattle.connection.specs.Reasons.{known_by_read}
+use Rattle.connection.specs.declared.connection.Got.TheVariants.{Piece}
 use Rattle.connections.proofs.Turns.{turn-read, turn-missed, turn-silently, turn-stays}
 use Rattle.connections.proofs.turn.listen.Goals as goal
 

@@ -1,9 +1,9 @@
 use Rattle.std.proofs.Common.{◌≡◌, ◌*◌, [], false, refl, sym, ap, ◌∙◌, rules, arith}
-use Rattle.connections.specs.Attending.{Known}
-use Rattle.connections.specs.Reasons.{may_write_by}
-use Rattle.connections.specs.Serving.{ViewerConnection, breaks_off}
+use Rattle.connection.specs.Known.{Known}
+use Rattle.connection.specs.Reasons.{may_write_by}
+use Rattle.connection.specs.Connection.{ViewerConnection, breaks_off}
 use Rattle.connections.proofs.Turns.{turn-then, turn-flushed}
-use Rattle.connections.proofs.Bounds.{writes-then, writes-bounded}
+use Rattle.connection.specs.BoundsLemmas.{writes-then, writes-bounded}
 use Rattle.connections.proofs.turn.send.Goals as goal
 
 pub returns-then-may_write : goal.returns-then-may_write

@@ -1,8 +1,8 @@
 use Rattle.std.proofs.Common.{refl, sym, ap, ◌∙◌, rules, arith}
-use Rattle.connections.specs.Attending.{Known}
-use Rattle.connections.specs.Serving.{ViewerConnection}
+use Rattle.connection.specs.Known.{Known}
+use Rattle.connection.specs.Connection.{ViewerConnection}
 use Rattle.connections.proofs.Turns.{turn-then, turn-written}
-use Rattle.connections.proofs.Bounds.{one-write}
+use Rattle.connection.specs.BoundsLemmas.{one-write}
 use Rattle.connections.proofs.turn.send_some.Goals as goal
 
 pub loop-writes-preserved : goal.loop-writes-preserved

@@ -1,5 +1,5 @@
 use Rattle.std.proofs.Common.{◌≡◌, ◌*◌, true}
-use Rattle.connections.specs.Bounds.{AreWrittenAtMost}
+use Rattle.connection.specs.Bounds.{AreWrittenAtMost}
 use Rattle.connections.specs.Turns.{TakesTurn}
 use Rattle.connections.proofs.turn.send_some.Given as goal
 

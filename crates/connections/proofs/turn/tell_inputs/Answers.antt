@@ -2,9 +2,11 @@ use Rattle.std.proofs.Common.{◌+◌, ◌-◌, Err, length, arith, take, drop, 
 use Rattle.std.proofs.lemmas.List.{length-drop, take-append-drop, take_all}
 use Rattle.screen.specs.declared.ScreenError.{ScreenError}
 use Rattle.held_inputs.specs.Held.{Held, after, roomy}
-use Rattle.connections.specs.Serving.{ViewerConnection}
-use Rattle.connections.specs.Telling.{said_by, held_behind, told_behind, told_for, IsTold}
-use Rattle.connections.specs.TellingLemmas.{held-append, held-more, told-all, told-on, told-until}
+use Rattle.connection.specs.Connection.{ViewerConnection}
+use Rattle.connections.specs.Telling.{said_by, told_behind, told_for, IsTold}
+use Rattle.connection.specs.Holding.{held_behind}
+use Rattle.connection.specs.HoldingLemmas.{held-append, held-more}
+use Rattle.connections.specs.TellingLemmas.{told-all, told-on, told-until}
 use Rattle.connections.proofs.turn.tell_inputs.Goals as goal
 
 pub returns-in-Err-clause-held : goal.returns-in-Err-clause-held

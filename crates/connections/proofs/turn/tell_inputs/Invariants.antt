@@ -1,6 +1,7 @@
 use Rattle.std.proofs.Common.{◌≡◌, take}
 use Rattle.connections.specs.Drawing.{Draws}
-use Rattle.connections.specs.Telling.{held_behind, said_by, told_behind}
+use Rattle.connection.specs.Holding.{held_behind}
+use Rattle.connections.specs.Telling.{said_by, told_behind}
 use Rattle.connections.specs.TellingLemmas.{IsToldAll}
 use Rattle.connections.proofs.turn.tell_inputs.Given as goal
 

@@ -1,7 +1,8 @@
 use Rattle.std.proofs.Common.{◌++◌, ℕ, List, Bool, sym, ap, ◌∙◌, subst}
 use Rattle.slab.specs.Slab.{Slab}
-use Rattle.connections.specs.Serving.{Serving, ViewerConnection}
-use Rattle.connections.specs.Recording.{none_yet}
+use Rattle.connections.specs.Serving.{Serving}
+use Rattle.connection.specs.Connection.{ViewerConnection}
+use Rattle.connection.specs.Recording.{none_yet}
 use Rattle.connections.proofs.Everyone.{admitted, Takes}
 use Rattle.connections.proofs.connections.Connections.admit.Goals as goal
 

@@ -1,6 +1,6 @@
 use Rattle.std.proofs.Common.{◌≡◌, ◌<◌, ℕ, true, Option, Some, length, slice_index_or, ap, ◌∙◌, sym, subst, arith, rules}
 use Rattle.connections.specs.Serving.{Serving, floods_at}
-use Rattle.connections.proofs.Among.{each-among, each-more}
+use Rattle.key_set.specs.AmongLemmas.{each-among, each-more}
 use Rattle.connections.proofs.connections.Connections.all_flood.Goals as goal
 
 pub returns-clause-all : goal.returns-clause-all

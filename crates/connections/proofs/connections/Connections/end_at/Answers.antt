@@ -1,7 +1,8 @@
 use Rattle.std.proofs.Common.{◌≡◌, Some, sym, ap, ◌∙◌}
 use Rattle.std.specs.Prelude.{option_map}
-use Rattle.connections.specs.Among.{is_among}
-use Rattle.connections.specs.Serving.{Serving, at_key, ended_by}
+use Rattle.key_set.specs.Among.{is_among}
+use Rattle.connections.specs.Serving.{Serving, at_key}
+use Rattle.connection.specs.Connection.{ended_by}
 use Rattle.connections.proofs.Turns.{turn-closed}
 use Rattle.connections.proofs.Everyone.{goes-at, asks-closed, at-set}
 use Rattle.connections.proofs.connections.Connections.end_at.Goals as goal

@@ -1,6 +1,6 @@
 use Rattle.std.proofs.Common.{Ok, inr, sym, ap, ◌∙◌, rules}
 use Rattle.screen.specs.declared.ScreenError.{ScreenError}
-use Rattle.connections.specs.Among.{is_among}
+use Rattle.key_set.specs.Among.{is_among}
 use Rattle.connections.specs.Serving.{Serving}
 use Rattle.connections.proofs.Everyone.{goes-is, goes-silently, goes-at-telling}
 use Rattle.connections.proofs.connections.Connections.hear_at.Goals as goal

@@ -1,5 +1,5 @@
 use Rattle.std.proofs.Common.{◌≡◌, true, ℕ, List, sym, subst}
-use Rattle.connections.specs.Among.{is_among}
+use Rattle.key_set.specs.Among.{is_among}
 use Rattle.connections.proofs.Everyone.{goes-among}
 use Rattle.connections.proofs.connections.Connections.list_busy.Goals as goal
 

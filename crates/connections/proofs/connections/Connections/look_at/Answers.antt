@@ -1,7 +1,8 @@
 use Rattle.std.proofs.Common.{sym, ap, ◌∙◌}
-use Rattle.connections.specs.Among.{is_among}
-use Rattle.connections.specs.Attending.{Known}
-use Rattle.connections.specs.Serving.{ViewerConnection, Serving}
+use Rattle.key_set.specs.Among.{is_among}
+use Rattle.connection.specs.Known.{Known}
+use Rattle.connection.specs.Connection.{ViewerConnection}
+use Rattle.connections.specs.Serving.{Serving}
 use Rattle.connections.proofs.Turns.{turn-looked}
 use Rattle.connections.proofs.Everyone.{goes-at, asks-same}
 use Rattle.connections.proofs.connections.Connections.look_at.Goals as goal

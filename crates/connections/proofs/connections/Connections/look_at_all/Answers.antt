@@ -1,6 +1,6 @@
 use Rattle.std.proofs.Common.{◌≡◌, ◌<◌, ℕ, true, Option, Some, length, slice_index_or, ap, ◌∙◌, sym, subst, arith}
 use Rattle.connections.specs.Serving.{Serving, may_cut_at}
-use Rattle.connections.proofs.Among.{each-among, each-more}
+use Rattle.key_set.specs.AmongLemmas.{each-among, each-more}
 use Rattle.connections.proofs.Everyone.{goes-then}
 use Rattle.connections.proofs.connections.Connections.look_at_all.Goals as goal
 

@@ -1,8 +1,9 @@
 use Rattle.std.proofs.Common.{◌≡◌, Some, sym, ap, ◌∙◌}
 use Rattle.std.specs.Prelude.{option_map}
-use Rattle.connections.specs.Among.{is_among}
-use Rattle.connections.specs.Attending.{Known}
-use Rattle.connections.specs.Serving.{ViewerConnection, Serving, at_key, noted_by}
+use Rattle.key_set.specs.Among.{is_among}
+use Rattle.connection.specs.Known.{Known}
+use Rattle.connection.specs.Connection.{ViewerConnection, noted_by}
+use Rattle.connections.specs.Serving.{Serving, at_key}
 use Rattle.connections.proofs.Turns.{turn-noted}
 use Rattle.connections.proofs.Everyone.{goes-at, asks-same, at-set}
 use Rattle.connections.proofs.connections.Connections.note_at.Goals as goal

@@ -1,5 +1,5 @@
 use Rattle.std.proofs.Common.{inl, sym, ap, ◌∙◌}
-use Rattle.connections.specs.Among.{is_among}
+use Rattle.key_set.specs.Among.{is_among}
 use Rattle.connections.specs.Serving.{Serving}
 use Rattle.connections.proofs.Everyone.{goes-at}
 use Rattle.connections.proofs.connections.Connections.send_at.Goals as goal

@@ -1,7 +1,8 @@
 use Rattle.std.proofs.Common.{sym, ap, ◌∙◌}
 use Rattle.std.specs.Prelude.{option_map}
 use Rattle.receipts.specs.declared.Ended.TheVariants.{Gate}
-use Rattle.connections.specs.Serving.{Serving, at_key, number_at, ended_by}
+use Rattle.connections.specs.Serving.{Serving, at_key, number_at}
+use Rattle.connection.specs.Connection.{ended_by}
 use Rattle.event_loop.proofs.event_loop.EventLoop.close_viewer.Goals as goal
 
 pub returns-clause-let_go : goal.returns-clause-let_go

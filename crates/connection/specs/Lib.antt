@@ -1,0 +1,12 @@
+pub mod Waiting
+pub mod Known
+pub mod Counting
+pub mod Connection
+pub mod Holding
+pub mod HoldingLemmas
+pub mod Recording
+pub mod Carrying
+pub mod Bounds
+pub mod BoundsLemmas
+pub mod MovesLemmas
+pub mod Reasons
