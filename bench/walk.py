@@ -65,8 +65,8 @@ OUT = [
     ("pixel_translate/src/bytes.rt", "write_32_little", "pixel_of"),
     ("connections/src/backlog.rt", "write_once"),
     ("connections/src/recording.rt", "send"),
-    ("event_loop/src/socket.rt", "send", "send"),  # the peer's, and its socket's
-    ("event_loop/src/socket.rt", "send", "write"),
+    ("sockets/src/socket.rt", "send", "send"),  # the peer's, and its socket's
+    ("sockets/src/socket.rt", "send", "write"),
 ]
 
 

@@ -1,11 +1,9 @@
 pub mod Sockets
 pub mod Lending
 pub mod Opening
+pub mod Listening
 pub mod Room
 pub mod Admitting
 pub mod Parting
 pub mod Patience
-pub mod Doors
-pub mod Entrance
-pub mod Requests
 pub mod Traffic

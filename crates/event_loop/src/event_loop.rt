@@ -1,4 +1,4 @@
-//! The loop.
+//! The loop, by the calls of a program.
 
 ghost use Rattle.std.specs.Prelude.{◌≡◌, ◌≢◌, ◌≤◌, ◌<◌, ℕ, [], None, Some, Ok, Err, true, false, IfOk, IfErr, IfSome, OnOk, OnErr, MatchOption, is_some, IsSome, count_by, option_map};
 ghost use Rattle.std.specs.Borrow.{sem};
@@ -12,27 +12,22 @@ ghost use Rattle.record_writer.specs.Held.{bytes_held};
 ghost use Rattle.event_loop.specs.Lending.{lends_canvas};
 ghost use Rattle.event_loop.specs.declared.event_loop.LoopError.TheVariants as error;
 ghost use Rattle.event_loop.specs.Sockets.{sockets, sockets_and, GoesOnServing, GoesOnServingTelling};
-ghost use Rattle.event_loop.specs.Doors.{IsListenRefusal, IsUnreachable};
+ghost use Rattle.event_loop.specs.Listening.{IsListenRefusal, IsUnreachable};
 ghost use Rattle.event_loop.specs.Opening.{IsOpenedOr};
 ghost use Rattle.event_loop.specs.Admitting.{IsAdmittedOr};
 ghost use Rattle.event_loop.specs.Parting.{IsLetGo};
 ghost use Rattle.event_loop.specs.Traffic.{IsTrafficOf};
 
-use crate::browsers::{Browsers, WAITING};
-use crate::door::Listener;
-use crate::entrance::Entrance;
 use crate::limits::Limits;
-use crate::poller::{Found, Poller, found_in};
-use crate::shorter::shorter;
-use crate::socket::{Peer, TakesLeave};
 use crate::traffic::Traffic;
+use crate::turns::now_by;
 use crate::viewers::{Admission, Viewers};
 use connections::{
     Application, Canvas, Config, Connections, Readiness, RecordWriter, Screen, ScreenError,
 };
 use mio::Waker;
-use mio::event::Event;
 use mio::net::{TcpListener, TcpStream, UnixListener};
+use sockets::{Browsers, Entrance, ListenError, Listener, Peer, Poller};
 use std::alloc::{AllocError, Global};
 use std::io;
 use std::marker::Model;
@@ -40,18 +35,6 @@ use std::net::{Net, SocketAddr};
 use std::os::fd::{AsRawFd, RawFd};
 use std::time::{Clock, Duration, Instant};
 use web_opening::Admission as LetIn;
-
-/// How many connections are accepted in one turn, at most, of each kind.
-const ACCEPTED: u32 = 32;
-
-/// For how many milliseconds an open viewer counts as active whose socket was found ready.
-const ACTIVE: u64 = 5;
-
-/// In how many milliseconds one connection is accepted, while a viewer is active.
-const APART: u64 = 1;
-
-/// How many milliseconds ahead of that they may be who come at once: 64 of them.
-const AHEAD: u64 = 64 * APART;
 
 /// Why a loop ended, or didn't listen.
 #[derive(Clone, Copy, Debug, PartialEq, Eq)]
@@ -72,6 +55,21 @@ impl From<ScreenError> for LoopError {
     }
 }
 
+impl From<ListenError> for LoopError {
+    ghost use Rattle.std.specs.Prelude.{◌≡◌};
+    ghost use Rattle.event_loop.specs.Listening.{loop_error};
+
+    ghost from_gives = { λ refusal error. error ≡ loop_error refusal };
+
+    fn from(refusal: ListenError) -> LoopError {
+        match refusal {
+            ListenError::Network => LoopError::Network,
+            ListenError::TooManyListeners => LoopError::TooManyListeners,
+            ListenError::OutOfMemory => LoopError::Screen(ScreenError::OutOfMemory),
+        }
+    }
+}
+
 impl From<AllocError> for LoopError {
     fn from(_error: AllocError) -> LoopError {
         LoopError::Screen(ScreenError::OutOfMemory)
@@ -80,25 +78,25 @@ impl From<AllocError> for LoopError {
 
 /// A screen with its viewers' sockets.
 pub struct EventLoop {
-    poller: Poller,
-    entrance: Entrance,
-    viewers: Viewers<Peer>,
+    pub(crate) poller: Poller,
+    pub(crate) entrance: Entrance,
+    pub(crate) viewers: Viewers<Peer>,
     // when the first turn came
-    began: Option<Instant>,
+    pub(crate) began: Option<Instant>,
     // how many milliseconds behind that the last one was
-    time: u64,
+    pub(crate) time: u64,
     // the socket of an open viewer was found ready at the last wait, and when one was last
-    is_active: bool,
-    active: Option<Instant>,
+    pub(crate) is_active: bool,
+    pub(crate) active: Option<Instant>,
     // when the next of those who come would be seen to, had each waited for it
-    next_due: Option<Instant>,
+    pub(crate) next_due: Option<Instant>,
     // another thread woke the loop
-    is_woken: bool,
+    pub(crate) is_woken: bool,
     // what the program's own stream was found ready for, until the application did all that it can with it
-    watched: Option<Readiness>,
+    pub(crate) watched: Option<Readiness>,
     // when the application's time comes, once it was told that it has
-    has_ticked: bool,
-    next_tick: Option<Instant>,
+    pub(crate) has_ticked: bool,
+    pub(crate) next_tick: Option<Instant>,
 }
 
 // Written out, so that who holds one proves one call here, and not the drop of each field.
@@ -129,59 +127,6 @@ impl Model for EventLoop {
     ghost view = { λ a. a.viewers.connections };
 }
 
-/// What the poller found besides what is a connection's.
-#[derive(Clone, Copy)]
-struct Noted {
-    /// The socket of an open viewer is ready.
-    is_active: bool,
-    /// Another thread woke the loop.
-    is_woken: bool,
-    /// What the program's own stream is ready for.
-    watched: Option<Readiness>,
-}
-
-/// Records one event of the poller; in `noted` what isn't a connection's alone.
-fn note(
-    event: &Event,
-    connections: &mut Connections<Peer>,
-    entrance: &mut Entrance,
-    noted: &mut Noted,
-) -> Result<(), AllocError>
-    ensures served { GoesOnServing connections.old connections.new }
-{
-    match found_in(event) {
-        Found::Listener(number) => entrance.note_viewer(number),
-        Found::WebListener => entrance.note_browser(),
-        Found::Request => entrance.note_request(),
-        Found::Woken => noted.is_woken = true,
-        Found::Watched(readiness) => noted.watched = Some(readiness),
-        Found::Connection(key, readiness) => {
-            noted.is_active = noted.is_active || connections.is_open(key);
-            connections.note(key, readiness)?;
-        }
-    }
-    Ok(())
-}
-
-/// Records what the poller found. Returns what of it isn't a connection's alone.
-fn note_found(
-    poller: &Poller,
-    connections: &mut Connections<Peer>,
-    entrance: &mut Entrance,
-) -> Result<Noted, AllocError>
-    ensures served { GoesOnServing connections.old connections.new }
-{
-    let mut noted = Noted {
-        is_active: false,
-        is_woken: false,
-        watched: None,
-    };
-    for event in poller.events() {
-        note(event, connections, entrance, &mut noted)?;
-    }
-    Ok(noted)
-}
-
 /// Returns where connections come in: at a listener, if there is one, of which the poller reports what waits there.
 fn entrance_of(
     alloc: Global,
@@ -195,28 +140,6 @@ fn entrance_of(
         entrance.listen(poller, Listener::Tcp(listener))?;
     }
     Ok(entrance)
-}
-
-/// Returns what was found before, and what was found now.
-fn both(before: Option<Readiness>, now: Option<Readiness>) -> Option<Readiness> {
-    let (Some(one), Some(other)) = (before, now) else {
-        return before.or(now);
-    };
-    Some(Readiness {
-        may_read: one.may_read || other.may_read,
-        may_write: one.may_write || other.may_write,
-        is_hung_up: one.is_hung_up || other.is_hung_up,
-    })
-}
-
-/// Takes leave of a peer, and closes its connection.
-fn take_leave(mut peer: Peer) {
-    peer.take_leave();
-}
-
-/// Returns the clock's time.
-fn now_by<C: Clock>(clock: &C) -> Result<Instant, LoopError> {
-    Instant::now(clock).map_err(|_| LoopError::Clock)
 }
 
 impl EventLoop {
@@ -332,7 +255,8 @@ impl EventLoop {
         ensures same { self.new ≡ self.old }
         ensures refused { IfErr result IsListenRefusal }
     {
-        self.entrance.listen(&self.poller, Listener::Tcp(listener))
+        self.entrance.listen(&self.poller, Listener::Tcp(listener))?;
+        Ok(())
     }
 
     /// Listens for viewers at a socket of UNIX, as `listen` does at a port. `viewer_address` answers a failure for those who come by it.
@@ -340,7 +264,9 @@ impl EventLoop {
         ensures same { self.new ≡ self.old }
         ensures refused { IfErr result IsListenRefusal }
     {
-        self.entrance.listen(&self.poller, Listener::Unix(listener))
+        self.entrance
+            .listen(&self.poller, Listener::Unix(listener))?;
+        Ok(())
     }
 
     /// Lets browsers in from now on that come by a listener of their own and are viewers over WebSockets (RFC 6455), with the same limits.
@@ -572,321 +498,6 @@ impl EventLoop {
             turns += 1;
         }
         Ok(turns)
-    }
-
-    /// Returns whether a connection that waits is accepted, be it to be turned away.
-    fn accepts(&self) -> bool {
-        self.entrance.may_accept() && self.viewers.accepts_next()
-    }
-
-    /// Returns whether somebody came who is to be seen to: a connection, or more of a request.
-    fn has_come(&self) -> bool {
-        self.accepts() || self.entrance.is_due() || self.entrance.goes_on()
-    }
-
-    /// Returns whether the socket of an open viewer was found ready lately.
-    fn is_active_at(&self, now: Instant) -> bool {
-        self.active.is_some_and(|then| now.duration_since(then) < Duration::from_millis(ACTIVE))
-    }
-
-    /// Returns how long who comes is to wait. Nobody waits while no viewer is active. Else it is one in a millisecond behind the first 64, so that
-    /// who comes takes little of an active viewer's time, however many they are.
-    fn pause(&self, now: Instant) -> Duration {
-        match self.next_due {
-            Some(due) if self.is_active_at(now) => due
-                .duration_since(now)
-                .saturating_sub(Duration::from_millis(AHEAD)),
-            _ => Duration::ZERO,
-        }
-    }
-
-    /// Returns how many connections of each kind are accepted now, at most: one, which is counted, while a viewer is active.
-    fn most_at(&mut self, now: Instant) -> u32
-        ensures same { self.new ≡ self.old }
-    {
-        if !self.is_active_at(now) {
-            return ACCEPTED;
-        }
-        let due = self.next_due.unwrap_or(now);
-        let from = if now < due { due } else { now };
-        self.next_due = from.checked_add(Duration::from_millis(APART));
-        1
-    }
-
-    /// Returns how long a turn may wait.
-    fn wait_for(&self, now: Instant, timeout: Option<Duration>) -> Option<Duration> {
-        if !self.has_ticked || self.watched.is_some() {
-            return Some(Duration::ZERO);
-        }
-        let until = |then: Instant| then.duration_since(now);
-        let mut wait = shorter(timeout, self.viewers.newcomers.next_after(now));
-        if self.has_come() {
-            wait = shorter(wait, Some(self.pause(now)));
-        }
-        wait = shorter(wait, self.next_tick.map(until));
-        wait = shorter(wait, self.entrance.next_after(now));
-        shorter(
-            wait,
-            self.viewers.connections.is_busy().then_some(Duration::ZERO),
-        )
-    }
-
-    /// Waits until something is ready, the application's time comes, or the time is up, and notes what was found. Returns the time.
-    fn wait<C: Clock>(&mut self, clock: &C, timeout: Option<Duration>) -> Result<Instant, LoopError>
-        ensures served { GoesOnServing self.old self.new }
-    {
-        self.viewers.connections.flush_record();
-        let wait = self.wait_for(now_by(clock)?, timeout);
-        if self.poller.wait(wait).is_err() {
-            return Err(LoopError::Network);
-        }
-        self.entrance.begin_turn();
-        let noted = note_found(
-            &self.poller,
-            &mut self.viewers.connections,
-            &mut self.entrance,
-        )?;
-        self.is_woken = noted.is_woken;
-        self.watched = both(self.watched, noted.watched);
-        self.is_active = noted.is_active;
-        now_by(clock)
-    }
-
-    /// Tells the application that it was woken, that its own stream is ready, and that its time has come, where this is so.
-    fn tell_time<A: Application>(
-        &mut self,
-        now: Instant,
-        application: &mut A,
-    ) -> Result<(), LoopError>
-        ensures served { GoesOnServing self.old self.new }
-        ensures stands { Stays A.stands application.old application.new }
-    {
-        self.tell_woken(application)?;
-        self.tell_ready(application)?;
-        self.tick(now, application)
-    }
-
-    /// Sees to those who come, and lets viewers go that took too long for their opening.
-    fn come_and_go<A: Application>(
-        &mut self,
-        now: Instant,
-        application: &mut A,
-    ) -> Result<(), LoopError>
-        ensures served { GoesOnServing self.old self.new }
-        ensures stands { Stays A.stands application.old application.new }
-    {
-        self.retry(now);
-        self.see_to(now, application)?;
-        self.viewers.let_go(now)?;
-        Ok(())
-    }
-
-    /// Accepts connections that wait, and answers browsers' requests, unless these are to wait.
-    fn see_to<A: Application>(&mut self, now: Instant, application: &mut A) -> Result<(), LoopError>
-        ensures served { GoesOnServing self.old self.new }
-        ensures stands { Stays A.stands application.old application.new }
-    {
-        if !self.has_come() || self.pause(now) > Duration::ZERO {
-            return Ok(());
-        }
-        let most = self.most_at(now);
-        self.accept_some(now, most, application)?;
-        self.answer_some(now, application)
-    }
-
-    /// Returns how many milliseconds passed since the first turn.
-    fn milliseconds(&mut self, now: Instant) -> u64
-        ensures same { self.new ≡ self.old }
-    {
-        let began = self.began.unwrap_or(now);
-        self.began = Some(began);
-        self.time = u64::try_from(now.duration_since(began).as_millis()).unwrap_or(u64::MAX);
-        self.time
-    }
-
-    /// Hears what viewers sent, writes what they are given, and parts with those that ended.
-    fn turn<A: Application>(&mut self, now: Instant, application: &mut A) -> Result<(), LoopError>
-        ensures served { GoesOnServingTelling A.stands self.old self.new application.old application.new result }
-    {
-        let milliseconds = self.milliseconds(now);
-        self.viewers.connections.set_time(milliseconds);
-        self.viewers.connections.turn(application)?;
-        self.part(application)
-    }
-
-    /// Tells the application that it was woken, where it was.
-    fn tell_woken<A: Application>(&mut self, application: &mut A) -> Result<(), LoopError>
-        ensures served { GoesOnServing self.old self.new }
-        ensures stands { Stays A.stands application.old application.new }
-    {
-        if !self.is_woken {
-            return Ok(());
-        }
-        self.viewers.connections.tell_woken(application)?;
-        Ok(())
-    }
-
-    /// Tells the application that its own stream is ready, where it is, or where more could be done with it.
-    fn tell_ready<A: Application>(&mut self, application: &mut A) -> Result<(), LoopError>
-        ensures served { GoesOnServing self.old self.new }
-        ensures stands { Stays A.stands application.old application.new }
-    {
-        let Some(found) = self.watched else {
-            return Ok(());
-        };
-        let has_more = self.viewers.connections.tell_ready(found, application)?;
-        self.watched = has_more.then_some(found);
-        Ok(())
-    }
-
-    /// Notes that a viewer is active, where one is, asks the listeners again, where the time for this has come, and lets browsers go whose
-    /// requests took too long.
-    fn retry(&mut self, now: Instant)
-        ensures same { self.new ≡ self.old }
-    {
-        if self.is_active {
-            self.active = Some(now);
-        }
-        self.entrance.retry(now);
-        self.entrance.let_go(now);
-    }
-
-    /// Tells the application that its time has come, where it has.
-    fn tick<A: Application>(&mut self, now: Instant, application: &mut A) -> Result<(), LoopError>
-        ensures served { GoesOnServing self.old self.new }
-        ensures stands { Stays A.stands application.old application.new }
-    {
-        if self.has_ticked && !self.next_tick.is_some_and(|then| then <= now) {
-            return Ok(());
-        }
-        let after = self.viewers.connections.tick(application)?;
-        self.has_ticked = true;
-        self.next_tick = after.and_then(|after| now.checked_add(after));
-        Ok(())
-    }
-
-    /// Accepts connections that wait, so many at most of each kind.
-    fn accept_some<A: Application>(
-        &mut self,
-        now: Instant,
-        most: u32,
-        application: &mut A,
-    ) -> Result<(), LoopError>
-        ensures served { GoesOnServing self.old self.new }
-        ensures stands { Stays A.stands application.old application.new }
-    {
-        for _ in 0..most {
-            if !self.accepts() {
-                return Ok(());
-            }
-            self.accept(now, application)?;
-        }
-        Ok(())
-    }
-
-    /// Accepts a connection of each kind, if one waits, and takes a viewer's in.
-    fn accept<A: Application>(&mut self, now: Instant, application: &mut A) -> Result<(), LoopError>
-        ensures served { GoesOnServing self.old self.new }
-        ensures stands { Stays A.stands application.old application.new }
-    {
-        self.accept_browser(now);
-        if let Some(stream) = self.next_stream(now) {
-            self.admit(now, Peer::plain(stream), application)?;
-        }
-        Ok(())
-    }
-
-    /// Accepts a browser's connection, if one waits, and reads its request from now on.
-    fn accept_browser(&mut self, now: Instant)
-        ensures same { self.new ≡ self.old }
-    {
-        self.entrance.accept_browser(&self.poller, now);
-    }
-
-    /// Returns a connection that waited at a listener for viewers. None where none waits, and where the system has no room for one: then
-    /// it is asked again a little later.
-    fn next_stream(&mut self, now: Instant) -> Option<TcpStream>
-        ensures same { self.new ≡ self.old }
-    {
-        self.entrance.next_stream(now)
-    }
-
-    /// Goes on with each request of which more may have come, and takes those in that are accepted.
-    fn answer_some<A: Application>(
-        &mut self,
-        now: Instant,
-        application: &mut A,
-    ) -> Result<(), LoopError>
-        ensures served { GoesOnServing self.old self.new }
-        ensures stands { Stays A.stands application.old application.new }
-    {
-        for _ in 0..WAITING {
-            if !self.entrance.is_due() {
-                return Ok(());
-            }
-            self.answer(now, application)?;
-        }
-        Ok(())
-    }
-
-    /// Goes on with one of them, and takes it in once it is accepted.
-    fn answer<A: Application>(&mut self, now: Instant, application: &mut A) -> Result<(), LoopError>
-        ensures served { GoesOnServing self.old self.new }
-        ensures stands { Stays A.stands application.old application.new }
-    {
-        if let Some(peer) = self.next_accepted() {
-            self.admit(now, peer, application)?;
-        }
-        Ok(())
-    }
-
-    /// Goes on with one of them, and returns its socket once it is accepted.
-    fn next_accepted(&mut self) -> Option<Peer>
-        ensures same { self.new ≡ self.old }
-    {
-        self.entrance.go_on(&self.poller)
-    }
-
-    /// Takes in a connection that came, or turns it away where there is no room for it, as `Viewers::admit` does.
-    fn admit<A: Application>(
-        &mut self,
-        now: Instant,
-        peer: Peer,
-        application: &mut A,
-    ) -> Result<Admission, LoopError>
-        ensures served { GoesOnServing self.old self.new }
-        ensures stands { Stays A.stands application.old application.new }
-        ensures admitted { IfOk result (IsAdmittedOr self.old self.new) }
-    {
-        let admission = self.viewers.admit(&self.poller, now, peer, application)?;
-        Ok(admission)
-    }
-
-    /// Parts with the viewers that ended, and tells the application.
-    fn part<A: Application>(&mut self, application: &mut A) -> Result<(), LoopError>
-        ensures served { GoesOnServingTelling A.stands self.old self.new application.old application.new result }
-    {
-        for _ in 0..self.viewers.connections.len() {
-            if !self.part_with_one(application)? {
-                return Ok(());
-            }
-        }
-        Ok(())
-    }
-
-    /// Parts with one viewer that ended, and tells the application. Returns whether there was one.
-    fn part_with_one<A: Application>(&mut self, application: &mut A) -> Result<bool, LoopError>
-        ensures served { GoesOnServingTelling A.stands self.old self.new application.old application.new result }
-    {
-        let Some(departed) = self.viewers.connections.take_departed() else {
-            return Ok(false);
-        };
-        self.entrance.note_left();
-        take_leave(departed.transport);
-        self.viewers
-            .connections
-            .tell_left(departed.held, departed.receipt, application)?;
-        Ok(true)
     }
 }
 

@@ -18,18 +18,11 @@
 //! or when: tests over loopback show it.
 #![tactic(auto)]
 
-mod browsers;
-mod door;
-mod doors;
-mod entrance;
 mod event_loop;
 mod limits;
 mod opening;
-mod poller;
-mod request;
-mod shorter;
-mod socket;
 mod traffic;
+mod turns;
 mod viewers;
 
 pub use connections::{

@@ -15,9 +15,8 @@ ghost use Rattle.event_loop.specs.Room.{accepts_next, all_came, has_room, turns_
 
 use crate::limits::{Limits, WhenFull};
 use crate::opening::Newcomers;
-use crate::poller::Poller;
-use crate::socket::{SendsAtOnce, TakesLeave, set_up, turn_away};
 use connections::{Application, Connections, ScreenError, Transport};
+use sockets::{Poller, SendsAtOnce, TakesLeave, set_up, turn_away};
 use std::alloc::{AllocError, Global};
 use std::os::fd::AsRawFd;
 use std::time::{Duration, Instant};

@@ -1,5 +1,0 @@
-use Rattle.std.proofs.Common.{◌≡◌, length}
-use Rattle.event_loop.proofs.doors.Doors.next_stream.Given as goal
-
-abbrev pub invariant-loop : goal.invariant-loop
-invariant-loop l = length l.self.doors.items ≡ length l.fn.self.doors.items

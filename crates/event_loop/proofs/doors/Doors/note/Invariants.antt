@@ -1,7 +1,0 @@
-use Rattle.std.proofs.Common.{◌≡◌, ◌++◌, drop, map, take}
-use Rattle.event_loop.specs.Doors.{noted_at}
-use Rattle.event_loop.proofs.doors.Doors.note.Given as goal
-
--- those that were passed are changed
-abbrev pub invariant-loop-index : goal.invariant-loop-index
-invariant-loop-index l = l.self.doors.items ≡ map (noted_at l.number) (take l.index l.fn.self.doors.items) ++ drop l.index l.fn.self.doors.items

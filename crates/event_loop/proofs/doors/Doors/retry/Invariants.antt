@@ -1,8 +1,0 @@
-use Rattle.std.proofs.Common.{◌≡◌, ◌++◌, drop, map, take}
-use Rattle.std.specs.Time.{instant_nanos}
-use Rattle.event_loop.specs.Doors.{asked_again}
-use Rattle.event_loop.proofs.doors.Doors.retry.Given as goal
-
--- those that were passed are changed
-abbrev pub invariant-loop-index : goal.invariant-loop-index
-invariant-loop-index l = l.self.doors.items ≡ map (asked_again (instant_nanos l.now)) (take l.index l.fn.self.doors.items) ++ drop l.index l.fn.self.doors.items

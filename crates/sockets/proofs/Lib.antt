@@ -1,0 +1,3 @@
+pub mod RequestLemmas
+pub mod DoorLemmas
+pub mod WriteLemmas

@@ -1,0 +1,4 @@
+pub mod Counting
+pub mod Doors
+pub mod Entrance
+pub mod Requests
