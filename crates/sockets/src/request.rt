@@ -4,7 +4,7 @@ ghost use Rattle.std.specs.Prelude.{◌≡◌, false, []};
 ghost use Rattle.sockets.specs.Requests.{IsAnswer, IsPassedOver, IsRead, IsStep, known_of, step_behind};
 
 use crate::socket::{Peek, Peer, Socket};
-use connections::Transport;
+use connection::Transport;
 use mio::net::TcpStream;
 use std::alloc::Global;
 use std::io::ErrorKind;

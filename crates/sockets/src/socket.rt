@@ -6,7 +6,7 @@ ghost use Rattle.std.specs.Io.KnownBytes.{ReadConsumes, WriteAppends, Keeps};
 ghost use Rattle.turned_away.specs.Refusal.{refusal, reason};
 ghost use Rattle.sockets.specs.Counting.{counted};
 
-use connections::Transport;
+use connection::Transport;
 use keepalive::keep_alive;
 use mio::net::TcpStream;
 use std::alloc::Global;
