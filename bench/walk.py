@@ -10,7 +10,7 @@ TOP = os.path.dirname(os.path.dirname(os.path.realpath(__file__)))
 
 # (file below crates/, function, and a name in its body where that isn't the next function's; "" where it ends a branch)
 IN = [
-    ("connections/src/connection.rt", "receive", "receive"),  # the transport's: Socket's is read(2)
+    ("connection/src/connection.rt", "receive", "receive"),  # the transport's: Socket's is read(2)
     ("connections/src/turn.rt", "hear"),
     ("connections/src/canvas.rt", "hear"),
     ("screen/src/screen.rt", "hear"),
@@ -44,13 +44,13 @@ OUT = [
     ("updates/src/colours.rt", "of_block"),
     ("framebuffer/src/frame.rt", "read", ""),
     ("viewer/src/cutting.rt", "commit_cut", "put_marks"),
-    ("connections/src/connection.rt", "start"),
-    ("connections/src/backlog.rt", "start"),
+    ("connection/src/connection.rt", "start"),
+    ("connection/src/backlog.rt", "start"),
     ("updates/src/update.rt", "into_stream", "Stream"),
-    ("connections/src/connection.rt", "write"),
-    ("connections/src/backlog.rt", "write_some"),
-    ("connections/src/backlog.rt", "write_update"),
-    ("connections/src/backlog.rt", "make"),
+    ("connection/src/connection.rt", "write"),
+    ("connection/src/backlog.rt", "write_some"),
+    ("connection/src/backlog.rt", "write_update"),
+    ("connection/src/backlog.rt", "make"),
     ("updates/src/stream.rt", "fill"),
     ("updates/src/stream.rt", "put"),
     ("updates/src/remaining.rt", "put_short"),
@@ -63,8 +63,8 @@ OUT = [
     ("pixel_translate/src/bytes.rt", "write_pixels"),
     ("pixel_translate/src/bytes.rt", "write_32"),
     ("pixel_translate/src/bytes.rt", "write_32_little", "pixel_of"),
-    ("connections/src/backlog.rt", "write_once"),
-    ("connections/src/recording.rt", "send"),
+    ("connection/src/backlog.rt", "write_once"),
+    ("connection/src/recording.rt", "send"),
     ("sockets/src/socket.rt", "send", "send"),  # the peer's, and its socket's
     ("sockets/src/socket.rt", "send", "write"),
 ]
