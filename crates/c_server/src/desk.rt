@@ -1,20 +1,12 @@
 //! The desk: the calls of a server, and what waits to be fetched.
 
-ghost use Rattle.std.specs.Prelude.{◌≡◌, ℕ, ◌≤◌, ◌<◌, ◌<ℤ◌, ◌+◌, ◌-◌, ◌∷◌, ◌++◌, [], ◌^◌, take, pos, map, min, length, None, Some, IfOk, IfErr, OnOk, is_some, count_by};
-ghost use Rattle.screen.specs.declared.Event.{Event};
-ghost use Rattle.screen.specs.Alone.{config_refusal};
-ghost use Rattle.screen.specs.Calls.{event_of};
-ghost use Rattle.screen.specs.Reading.{is_open_rest};
+ghost use Rattle.std.specs.Prelude.{◌≡◌, ℕ, ◌≤◌, ◌<◌, ◌<ℤ◌, ◌+◌, ◌-◌, ◌∷◌, ◌++◌, [], ◌^◌, take, pos, min, length, None, Some, OnOk};
 ghost use Rattle.c_screen.specs.Codes as codes;
-ghost use Rattle.c_screen.specs.Codes.{IsRefusal};
-ghost use Rattle.c_screen.specs.Calls.{colour_at, of_viewer};
-ghost use Rattle.c_screen.specs.Desk.{rect_of, config_of, IsListOf};
+ghost use Rattle.c_screen.specs.Desk.{config_of};
 ghost use Rattle.std.specs.VecDeque.{deque_capacity};
-ghost use Rattle.c_server.specs.Desk.{fitting, texts_limit, is_named, nothing_there, rects_per_update, region_due};
-ghost use Rattle.c_server.specs.Calls.{Listens, ListensAt, ListensFurther, ServesUnbound, Adopts, NamesRecord, record_state, TakesTurn, Draws, DrawsRegion, FetchesInputs, FetchesVisits, ShowsNumbers, ShowsText, ShowsSettings, ShowsTraffic, Tells, TellsAddress, TellsSome, TellsWait, AreDigitsIn, LetsGo, TakesPixels};
+ghost use Rattle.c_server.specs.Desk.{fitting, texts_limit, is_named, nothing_there, rects_per_update};
+ghost use Rattle.c_server.specs.Calls.{Listens, ListensAt, ListensFurther, ServesUnbound, Adopts, NamesRecord, record_state, TakesTurn, ShowsTraffic, Tells, TellsAddress, TellsSome, TellsWait, AreDigitsIn, LetsGo};
 ghost use Rattle.std.specs.Net.Text.{ip_text};
-ghost use Rattle.c_screen.specs.Pixels.{format_of, source_from};
-ghost use Rattle.source_pixels.specs.declared.formats.SourceFormat.TheVariants as format;
 
 use crate::adopting::{Listener, Silent, listener_of, stream_of, turn_away};
 use crate::codes::{
@@ -23,19 +15,13 @@ use crate::codes::{
 use crate::gathering::Gathering;
 use crate::listening::{Address, bind, let_in, listen_on, serve_unbound};
 use crate::news::{
-    MOST_INPUTS, MOST_TEXT, MOST_VISITS, fetch_inputs, fetch_visits, make_room, put_all,
-    put_coming, put_inputs,
+    MOST_INPUTS, MOST_TEXT, MOST_VISITS, make_room, put_all, put_coming, put_inputs,
 };
 use crate::system::{SystemClock, digits_of, milliseconds_of, timeout_of};
 use crate::told::ToldBy;
 use crate::visits::Visit;
-use crate::waker::ServerWaker;
-use c_screen::{
-    Corners, OFF_SCREEN, OUT_OF_RANGE, PixelLayout, SHUT, Told, are_far, code_of, copy_to, done_or,
-    places_code, region_of, show_settings, source_of, truth_or,
-};
-use event_loop::{EventLoop, Listed, Rect, Region, ScreenError, Traffic, drawn_is_served};
-use screen::Drawing;
+use c_screen::{SHUT, code_of, copy_to};
+use event_loop::{EventLoop, Listed, ScreenError, Traffic};
 use std::alloc::{AllocError, Global};
 use std::collections::VecDeque;
 use std::marker::Model;
@@ -51,24 +37,24 @@ use std::time::Duration;
 /// At most 4,096 inputs wait, 4 MB of texts, and 1,024 comings and goings. What comes when there is no more room, and an input for which
 /// memory is refused, is lost, and counted: `lost`.
 pub struct ServerDesk {
-    alloc: Global,
-    events: Option<EventLoop>,
-    port: u16,
+    pub(crate) alloc: Global,
+    pub(crate) events: Option<EventLoop>,
+    pub(crate) port: u16,
     // how many viewers are granted at once
-    viewers: usize,
-    inputs: VecDeque<ToldBy>,
-    visits: VecDeque<Visit>,
+    pub(crate) viewers: usize,
+    pub(crate) inputs: VecDeque<ToldBy>,
+    pub(crate) visits: VecDeque<Visit>,
     // the room for the comings and goings of a turn
-    turn_visits: VecDeque<Visit>,
-    text: Listed<u8>,
+    pub(crate) turn_visits: VecDeque<Visit>,
+    pub(crate) text: Listed<u8>,
     // how many bytes of texts may come before they are too many
-    text_room: usize,
-    lost: u64,
-    full_requests: u64,
+    pub(crate) text_room: usize,
+    pub(crate) lost: u64,
+    pub(crate) full_requests: u64,
     // the file in which the screen that is served next is recorded, empty for none
-    record_path: Listed<u8>,
+    pub(crate) record_path: Listed<u8>,
     // what is served now is recorded
-    is_recorded: bool,
+    pub(crate) is_recorded: bool,
 }
 
 // Written out, so that who holds one proves one call here, and not the drop of each field.
@@ -505,328 +491,6 @@ impl ServerDesk {
         match events.longest_wait(&SystemClock) {
             Ok(wait) => milliseconds_of(wait),
             Err(_) => CLOCK_FAILED,
-        }
-    }
-
-    /// Draws by `Canvas::draw`: one of the calls below, as a value.
-    fn draw(&mut self, drawing: &Drawing<'_>) -> i32
-        ensures { Draws (event_of drawing.now) self.old self.new result }
-    {
-        let Some(events) = &mut self.events else {
-            return SHUT;
-        };
-        drawn_is_served();
-        done_or(events.canvas().draw(drawing))
-    }
-
-    /// Returns the places of a list of rectangles, or the code of the refusal: `OUT_OF_RANGE` where a coordinate is not from -2^20 to 2^20.
-    fn places_of(&self, list: &[Corners]) -> Result<Region, i32>
-        ensures places { IfOk result (λ region. IsListOf (map rect_of list.now) region.list) }
-        ensures accepted { OnOk result (region_due self.now (map rect_of list.now) ≡ None) }
-        ensures refused { IfErr result (λ number. IsRefusal (region_due self.now (map rect_of list.now)) number) }
-    {
-        if self.events.is_none() {
-            return Err(SHUT);
-        }
-        if are_far(list) {
-            return Err(OUT_OF_RANGE);
-        }
-        match region_of(self.alloc, list) {
-            Ok(region) => Ok(region),
-            Err(e) => Err(code_of(e)),
-        }
-    }
-
-    /// Does what `Canvas::paint` does.
-    pub fn paint(&mut self, x1: i32, y1: i32, x2: i32, y2: i32, colours: &[u32]) -> i32
-        ensures { Draws (Event.Paint (record { x1 = x1; y1 = y1; x2 = x2; y2 = y2 }) colours.now) self.old self.new result }
-    {
-        let rect = Rect { x1, y1, x2, y2 };
-        self.draw(&Drawing::Paint { rect, colours })
-    }
-
-    /// Does what `Canvas::write_pixels` does.
-    pub fn write_pixels(&mut self, x1: i32, y1: i32, x2: i32, y2: i32, colours: &[u32]) -> i32
-        ensures { Draws (Event.Write (record { x1 = x1; y1 = y1; x2 = x2; y2 = y2 }) colours.now) self.old self.new result }
-    {
-        let rect = Rect { x1, y1, x2, y2 };
-        self.draw(&Drawing::Write { rect, colours })
-    }
-
-    /// Does what `Canvas::mark_rect` does (`rfbMarkRectAsModified` of `rfb.h`).
-    pub fn mark_rect(&mut self, x1: i32, y1: i32, x2: i32, y2: i32) -> i32
-        ensures { Draws (Event.Mark (record { x1 = x1; y1 = y1; x2 = x2; y2 = y2 } ∷ [])) self.old self.new result }
-    {
-        let rect = Rect { x1, y1, x2, y2 };
-        self.draw(&Drawing::MarkRect(rect))
-    }
-
-    /// Does what `Canvas::schedule_copy_rect` does (`rfbScheduleCopyRect` of `rfb.h`).
-    pub fn schedule_copy_rect(
-        &mut self,
-        x1: i32,
-        y1: i32,
-        x2: i32,
-        y2: i32,
-        dx: i32,
-        dy: i32,
-    ) -> i32
-        ensures { Draws (Event.ScheduleCopy (record { x1 = x1; y1 = y1; x2 = x2; y2 = y2 } ∷ []) dx dy) self.old self.new result }
-    {
-        let rect = Rect { x1, y1, x2, y2 };
-        self.draw(&Drawing::ScheduleCopyRect { rect, dx, dy })
-    }
-
-    /// Does what `Canvas::do_copy_rect` does (`rfbDoCopyRect` of `rfb.h`).
-    pub fn do_copy_rect(&mut self, x1: i32, y1: i32, x2: i32, y2: i32, dx: i32, dy: i32) -> i32
-        ensures { Draws (Event.DoCopy (record { x1 = x1; y1 = y1; x2 = x2; y2 = y2 } ∷ []) dx dy) self.old self.new result }
-    {
-        let rect = Rect { x1, y1, x2, y2 };
-        self.draw(&Drawing::DoCopyRect { rect, dx, dy })
-    }
-
-    /// Does what `Canvas::bell` does (`rfbSendBell` of `rfb.h`).
-    pub fn bell(&mut self) -> i32
-        ensures { Draws (Event.Bell) self.old self.new result }
-    {
-        self.draw(&Drawing::Bell)
-    }
-
-    /// Does what `Canvas::cut_text` does (`rfbSendServerCutText` of `rfb.h`).
-    pub fn cut_text(&mut self, text: &[u8]) -> i32
-        ensures { Draws (Event.CutText text.now) self.old self.new result }
-    {
-        self.draw(&Drawing::CutText(text))
-    }
-
-    /// Does what `Canvas::new_framebuffer` does (`rfbNewFramebuffer` of `rfb.h`).
-    pub fn new_framebuffer(&mut self, width: u32, height: u32) -> i32
-        ensures { Draws (Event.Resize width height) self.old self.new result }
-    {
-        self.draw(&Drawing::NewFramebuffer { width, height })
-    }
-
-    /// Does what `Canvas::mark_region` does (`rfbMarkRegionAsModified` of `rfb.h`) for the places of a list of rectangles. Answers
-    /// `OUT_OF_RANGE` where a coordinate is not from -2^20 to 2^20.
-    pub fn mark_region(&mut self, list: &[Corners]) -> i32
-        ensures { DrawsRegion (map rect_of list.now) (λ places. Event.Mark places) self.old self.new result }
-    {
-        match self.places_of(list) {
-            Ok(region) => self.draw(&Drawing::MarkRegion(&region)),
-            Err(code) => code,
-        }
-    }
-
-    /// Does what `Canvas::schedule_copy_region` does (`rfbScheduleCopyRegion` of `rfb.h`) for such places, with that refusal.
-    pub fn schedule_copy_region(&mut self, list: &[Corners], dx: i32, dy: i32) -> i32
-        ensures { DrawsRegion (map rect_of list.now) (λ places. Event.ScheduleCopy places dx dy) self.old self.new result }
-    {
-        match self.places_of(list) {
-            Ok(region) => {
-                let region = &region;
-                self.draw(&Drawing::ScheduleCopyRegion { region, dx, dy })
-            }
-            Err(code) => code,
-        }
-    }
-
-    /// Does what `Canvas::do_copy_region` does (`rfbDoCopyRegion` of `rfb.h`) for such places, with that refusal.
-    pub fn do_copy_region(&mut self, list: &[Corners], dx: i32, dy: i32) -> i32
-        ensures { DrawsRegion (map rect_of list.now) (λ places. Event.DoCopy places dx dy) self.old self.new result }
-    {
-        match self.places_of(list) {
-            Ok(region) => {
-                let region = &region;
-                self.draw(&Drawing::DoCopyRegion { region, dx, dy })
-            }
-            Err(code) => code,
-        }
-    }
-
-    /// Takes a program's own pixels into the picture by `Canvas::take` (`rfbMarkRectAsModified` of `rfb.h`), from column `left` of row
-    /// `top` on, and owes every viewer what differs. `bytes` has `width` columns and `height` rows of pixels, `stride` bytes from one row
-    /// to the next; their format is a layout, or a table of colours, or where both are empty 32 bits `0x00RRGGBB` in little-endian order.
-    /// What lies off the screen is left out. Returns how many places changed; where memory is refused, each place has its old colour or its
-    /// new one.
-    pub fn update_from(
-        &mut self,
-        left: u32,
-        top: u32,
-        width: u32,
-        height: u32,
-        bytes: &[u8],
-        stride: u64,
-        layouts: &[PixelLayout],
-        table: &[u32],
-    ) -> i64
-        ensures { TakesPixels (source_from width height stride bytes.now (format_of layouts.now (length table.now) (format.Table table.entry))) left top self.old self.new result }
-    {
-        let Some(events) = &mut self.events else {
-            return i64::from(SHUT);
-        };
-        let source = match source_of(bytes, stride, width, height, layouts, table) {
-            Ok(source) => source,
-            Err(code) => return i64::from(code),
-        };
-        drawn_is_served();
-        places_code(events.canvas().take(self.alloc, left, top, &source))
-    }
-
-    /// Puts the first inputs that wait at the room's start, up to the first text, and takes them from what waits (`kbdAddEvent`,
-    /// `ptrAddEvent` and `setXCutText` of `rfb.h`). Returns how many they are; the rest of the room stays. The text's bytes are had by
-    /// `text`, until a call fetches another.
-    pub fn next_inputs(&mut self, room: &mut [Told]) -> i64
-        ensures { FetchesInputs self.old self.new room.old room.new result }
-    {
-        if self.events.is_none() {
-            return i64::from(SHUT);
-        }
-        let (count, length) = fetch_inputs(&mut self.inputs, room, &mut self.text);
-        self.text_room = self.text_room.saturating_add(length);
-        count as i64
-    }
-
-    /// Puts the first bytes of the text that was fetched last at the room's start, at most 2^30. Returns how many they are; the rest of the
-    /// room stays.
-    pub fn text(&mut self, room: &mut [u8]) -> i32
-        ensures { ShowsText self.old self.new room.old room.new result }
-    {
-        if self.events.is_none() {
-            return SHUT;
-        }
-        copy_to(room, self.text.as_slice()) as i32
-    }
-
-    /// Puts the first comings and goings that wait at the room's start, and takes them from what waits (`newClientHook` and
-    /// `clientGoneHook` of `rfb.h`). Returns how many they are; the rest of the room stays.
-    pub fn next_events(&mut self, room: &mut [Visit]) -> i64
-        ensures { FetchesVisits self.old self.new room.old room.new result }
-    {
-        if self.events.is_none() {
-            return i64::from(SHUT);
-        }
-        fetch_visits(&mut self.visits, room) as i64
-    }
-
-    /// Returns how many inputs, comings and goings were lost since `listen`, at most 2^62.
-    pub fn lost_count(&mut self) -> i64
-        ensures { Tells (λ _. pos (min self.old.lost (2 ^ 62))) self.old self.new result }
-    {
-        if self.events.is_none() {
-            return i64::from(SHUT);
-        }
-        self.lost.min(1 << 62) as i64
-    }
-
-    /// Returns how often, since `listen`, a viewer was heard to ask for places whether these changed or not, by a request that isn't
-    /// incremental (RFC 6143, 7.5.3; `clientFramebufferUpdateRequestHook` of `rfb.h` is called for each request): more than before where
-    /// one did in the last turns. At most 2^62. `settings` tells how many of a viewer's requests were such.
-    pub fn full_request_count(&mut self) -> i64
-        ensures { Tells (λ _. pos (min self.old.full_requests (2 ^ 62))) self.old self.new result }
-    {
-        if self.events.is_none() {
-            return i64::from(SHUT);
-        }
-        self.full_requests.min(1 << 62) as i64
-    }
-
-    /// Returns what ends a wait of `process_events` from another thread. It is shut where the desk is, or the system refuses it; and once
-    /// the desk is closed it wakes nobody. A desk has one at a time.
-    pub fn waker(&mut self) -> ServerWaker
-        ensures { self.new ≡ self.old }
-    {
-        match &self.events {
-            Some(events) => ServerWaker::new(events.waker().ok()),
-            None => ServerWaker::new(None),
-        }
-    }
-
-    /// Returns the port that it listens on.
-    pub fn port(&mut self) -> i32
-        ensures { Tells (λ _. pos self.old.port) self.old self.new result }
-    {
-        if self.events.is_none() {
-            return SHUT;
-        }
-        i32::from(self.port)
-    }
-
-    /// Returns how many viewers are connected, at most 2^30.
-    pub fn viewer_count(&mut self) -> i32
-        ensures { Tells (λ served. pos (min (count_by is_some served.slots) (2 ^ 30))) self.old self.new result }
-    {
-        let Some(events) = &self.events else {
-            return SHUT;
-        };
-        events.viewer_count().min(1 << 30) as i32
-    }
-
-    /// Puts the connected viewers' numbers at the room's start, in order of connecting, as many as fit, at most 2^30, and returns how many;
-    /// the rest of the room stays. Returns `OutOfMemory`'s code where memory for them is refused.
-    pub fn numbers(&mut self, room: &mut [u64]) -> i32
-        ensures { ShowsNumbers self.old self.new room.old room.new result }
-    {
-        let Some(events) = &self.events else {
-            return SHUT;
-        };
-        match events.screen().numbers() {
-            Ok(numbers) => copy_to(room, numbers.as_slice()) as i32,
-            Err(_) => code_of(ScreenError::OutOfMemory),
-        }
-    }
-
-    /// Returns 1 where a viewer's opening is over and it met no fault, else 0, as `Screen::is_open` says. Returns `NoViewer`'s code where
-    /// none has the number.
-    pub fn is_open(&mut self, viewer: u64) -> i32
-        ensures { Tells (λ served. of_viewer viewer (λ seen. codes.one_or_zero (is_open_rest seen.heard)) served.surface.screen) self.old self.new result }
-    {
-        let Some(events) = &self.events else {
-            return SHUT;
-        };
-        truth_or(events.screen().is_open(viewer))
-    }
-
-    /// Puts what `Screen::settings` says of a viewer at the room's start (`format` and the like of `rfbClientRec` in `rfb.h`), in 32-bit
-    /// words, as many as fit, and returns how many; the rest of the room stays. Returns `NoViewer`'s code where none has the number.
-    pub fn settings(&mut self, viewer: u64, room: &mut [u32]) -> i32
-        ensures { ShowsSettings viewer self.old self.new room.old room.new result }
-    {
-        let Some(events) = &self.events else {
-            return SHUT;
-        };
-        show_settings(events.screen().settings(viewer), room)
-    }
-
-    /// Returns `Screen::width`: 1 to 8192.
-    pub fn width(&mut self) -> i64
-        ensures { Tells (λ served. pos served.surface.screen.picture.width) self.old self.new result }
-    {
-        let Some(events) = &self.events else {
-            return i64::from(SHUT);
-        };
-        i64::from(events.screen().width())
-    }
-
-    /// Returns `Screen::height`: 1 to 8192.
-    pub fn height(&mut self) -> i64
-        ensures { Tells (λ served. pos served.surface.screen.picture.height) self.old self.new result }
-    {
-        let Some(events) = &self.events else {
-            return i64::from(SHUT);
-        };
-        i64::from(events.screen().height())
-    }
-
-    /// Returns `Screen::colour`: `0x00RRGGBB`; `OFF_SCREEN` off the screen.
-    pub fn colour(&mut self, x: u32, y: u32) -> i64
-        ensures { Tells (λ served. colour_at x y served.surface.screen) self.old self.new result }
-    {
-        let Some(events) = &self.events else {
-            return i64::from(SHUT);
-        };
-        match events.screen().colour(x, y) {
-            Some(colour) => i64::from(colour),
-            None => i64::from(OFF_SCREEN),
         }
     }
 }

@@ -14,6 +14,8 @@
 mod adopting;
 mod codes;
 mod desk;
+mod drawing;
+mod fetching;
 mod gathering;
 mod listening;
 mod news;

@@ -13,6 +13,7 @@
 //! Whatever the others do, each transport is written what the screen with this one viewer gives: `Connections::turn`.
 #![tactic(auto)]
 
+mod agenda;
 mod application;
 mod canvas;
 mod connections;
