@@ -18,7 +18,7 @@ mod watching;
 pub use command_line::{Chosen, WebPort, line_of};
 pub use event_loop::{LetIn, RecordWriter};
 pub use mirror::{BrowserListener, Listeners, MirrorOptions, mirror_on};
-pub use one_thread::{Browsers, OneThread, serve_in_one_thread};
+pub use one_thread::{OneThread, serve_in_one_thread};
 pub use pixel_translate::{BitsPerPixel, Component};
 pub use play_script::{SCRIPT_LIMIT, Steps, play_counted, play_over};
 pub use replay::{Asked, Question, replay_over};

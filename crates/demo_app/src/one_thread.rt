@@ -18,11 +18,10 @@ ghost use Rattle.event_loop.specs.Sockets.{sockets_and, GoesOnServing, GoesOnSer
 
 use crate::endings::{print_ends, print_judgement, sort_receipts, written_out};
 use crate::serve::{Easel, ServeOptions, Stroke, WHITE, config_of, easel_of, print_refusal};
-use event_loop::{
-    Application, Canvas, EventLoop, LetIn, Limits, LoopError, RecordWriter, WhenFull,
-};
+use event_loop::{Application, Canvas, EventLoop, Limits, LoopError, RecordWriter, WhenFull};
 use messages::Input;
 use mio::net::TcpListener;
+use mirror::BrowserListener;
 use play_script::trouble::{Trouble, report};
 use receipts::{FinishError, Receipt, Report, check};
 use screen::{Config, Event, Listed, ScreenError};
@@ -37,22 +36,13 @@ use std::time::{Clock, Duration};
 /// How long a viewer may take for its opening, in seconds.
 const OPENING_SECONDS: u64 = 10;
 
-/// Where browsers connect, and who is let in.
-#[derive(Drop)]
-pub struct Browsers {
-    /// The listener that they come by.
-    pub listener: TcpListener,
-    /// The hosts and the origins that their requests may have, besides this machine's.
-    pub let_in: LetIn,
-}
-
 /// What a server in one thread does besides.
 #[derive(Drop)]
 pub struct OneThread {
     /// Where the session is recorded.
     pub record: Option<RecordWriter>,
     /// Where browsers are let in.
-    pub browsers: Option<Browsers>,
+    pub browsers: Option<BrowserListener>,
     /// Whether viewers are taken without end, as many at once as the options say, and a further one is turned away.
     pub forever: bool,
     /// What another thread ends the server by: it is looked at five times a second.
@@ -363,12 +353,12 @@ fn open_loop<R: Net>(
 fn let_in(
     alloc: Global,
     served: &mut EventLoop,
-    browsers: Option<Browsers>,
+    browsers: Option<BrowserListener>,
 ) -> Result<(), LoopError>
     ensures same { served.new ≡ served.old }
 {
     match browsers {
-        Some(Browsers { listener, let_in }) => served.listen_web(alloc, listener, let_in),
+        Some(BrowserListener { listener, let_in }) => served.listen_web(alloc, listener, let_in),
         None => Ok(()),
     }
 }
@@ -381,7 +371,7 @@ fn open_to_all<R: Net>(
     config: Config,
     limits: Limits,
     record: Option<RecordWriter>,
-    browsers: Option<Browsers>,
+    browsers: Option<BrowserListener>,
 ) -> Result<EventLoop, LoopError>
     ensures serves { IfOk result (λ served.
         (held : Option (Option (List ℕ))) × Serves config (sockets_and held config) [] served) }

@@ -4,14 +4,14 @@
 
 use clap::error::ErrorKind;
 use demo_app::{
-    Asked, BrowserListener, Browsers, ByThreads, Chosen, Listeners, MirrorOptions, OneThread,
-    RecordWriter, ServeOptions, Stop, WebPort, is_refused, line_of, mirror_on, play_over,
-    replay_over, self_in_one_thread, self_on, serve_by_threads, serve_in_one_thread,
+    Asked, BrowserListener, ByThreads, Chosen, Listeners, MirrorOptions, OneThread, RecordWriter,
+    ServeOptions, Stop, WebPort, is_refused, line_of, mirror_on, play_over, replay_over,
+    self_in_one_thread, self_on, serve_by_threads, serve_in_one_thread,
 };
 use std::alloc::Global;
 use std::fs::{File, OpenOptions};
 use std::io::{BufReader, BufWriter, Write};
-use std::net::{Ipv4Addr, Net, SocketAddr, TcpListener, TcpStream};
+use std::net::{IpAddr, Ipv4Addr, Net, SocketAddr, TcpListener, TcpStream};
 use std::os::unix::fs::OpenOptionsExt;
 use std::process::ExitCode;
 use std::rt::{Files, Runtime};
@@ -73,7 +73,7 @@ fn say_both<R: Runtime>(
     rt: &R,
     options: &ServeOptions,
     address: io::Result<SocketAddr>,
-    browsers: &Browsers,
+    browsers: &BrowserListener,
 ) {
     if is_refused(options) {
         return;
@@ -237,13 +237,17 @@ fn listen_on<R: Net>(rt: &R, address: SocketAddr) -> Result<mio::net::TcpListene
     }
 }
 
-/// Listens on the port for browsers, where there is one.
-fn listen_web<R: Net>(rt: &R, web: Option<WebPort>) -> Result<Option<Browsers>, NoPort> {
+/// Listens on the port for browsers at an address, where there is one.
+fn listen_web<R: Net>(
+    rt: &R,
+    address: IpAddr,
+    web: Option<WebPort>,
+) -> Result<Option<BrowserListener>, NoPort> {
     let Some(WebPort { port, let_in }) = web else {
         return Ok(None);
     };
-    let listener = listen(rt, port)?;
-    Ok(Some(Browsers { listener, let_in }))
+    let listener = listen_on(rt, SocketAddr::new(address, port))?;
+    Ok(Some(BrowserListener { listener, let_in }))
 }
 
 /// Serves them by one thread for all.
@@ -262,7 +266,7 @@ fn serve_with_one<W: Write, R: Runtime + Threads + Net + Files<File = File>>(
         ends_with_input,
     } = besides;
     let listener = listen(rt, port)?;
-    let browsers = listen_web(rt, web)?;
+    let browsers = listen_web(rt, IpAddr::V4(Ipv4Addr::LOCALHOST), web)?;
     let stop = match stop_if(rt, alloc, ends_with_input) {
         Ok(stop) => stop,
         Err(why) => return Ok(not_served(writer, why)),
@@ -363,13 +367,7 @@ fn listeners_on<R: Net>(
     web: Option<WebPort>,
 ) -> Result<Listeners, NoPort> {
     let viewers = listen_on(rt, listen)?;
-    let browsers = match web {
-        Some(WebPort { port, let_in }) => Some(BrowserListener {
-            listener: listen_on(rt, SocketAddr::new(listen.ip(), port))?,
-            let_in,
-        }),
-        None => None,
-    };
+    let browsers = listen_web(rt, listen.ip(), web)?;
     Ok(Listeners { viewers, browsers })
 }
 
