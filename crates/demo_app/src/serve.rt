@@ -85,7 +85,7 @@ pub(crate) enum Stroke<'a> {
     Text(&'a [u8]),
 }
 
-/// How many inputs may wait for the application.
+/// How many inputs may wait for the application, where so many viewers are served in all. Without end it is `serving::INPUTS`.
 const INPUTS: usize = 1024;
 
 /// The colour of a place that is painted.
@@ -254,7 +254,15 @@ fn serve_without_end<L: Ledger + Send + Sync, R: Threads + Wait + Clock + Net + 
     let viewers = options.viewers as usize;
     let mut easel = easel_of(options);
     serve_forever(
-        rt, alloc, listener, shared, brush, viewers, INPUTS, stop, &mut easel,
+        rt,
+        alloc,
+        listener,
+        shared,
+        brush,
+        viewers,
+        serving::INPUTS,
+        stop,
+        &mut easel,
     )?;
     Ok(Vec::new(alloc))
 }
