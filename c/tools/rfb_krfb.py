@@ -15,7 +15,7 @@ import subprocess
 import sys
 import threading
 
-from rfb_viewer import HERE, Viewer, await_told, differing, flags_of_real, free_port, layer
+from rfb_viewer import HERE, Viewer, await_told, differing, flags_of_real, free_port, layer, says_what_is_wrong
 
 SOURCE, PREFIX, ROOM = sys.argv[1:4]
 PARTS = ["rfbserver", "rfbclient", "rfbservermanager", "framebuffer", "invitationsrfbserver", "invitationsrfbclient", "sockethelpers"]
@@ -282,8 +282,4 @@ def main():
         raise OSError("that differs")
 
 
-try:
-    main()
-except (OSError, EOFError, subprocess.TimeoutExpired) as error:
-    print(f"WRONG: {error or 'the server closed the connection'}")
-    sys.exit(1)
+says_what_is_wrong(main)

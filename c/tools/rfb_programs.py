@@ -15,7 +15,7 @@ import subprocess
 import sys
 import time
 
-from rfb_viewer import HERE, Viewer, await_told, changed, compiles, counted, differing, flags_of_real, free_port, layer
+from rfb_viewer import HERE, Viewer, await_told, changed, compiles, counted, differing, flags_of_real, free_port, layer, says_what_is_wrong
 
 KIND, SOURCE, PREFIX, ROOM = sys.argv[1:5]
 KEYS = [(key, down) for key in b"acdefghijk" for down in (1, 0)]
@@ -193,8 +193,4 @@ def main():
         raise OSError("that differs")
 
 
-try:
-    main()
-except (OSError, EOFError, subprocess.TimeoutExpired) as error:
-    print(f"WRONG: {error or 'the server closed the connection'}")
-    sys.exit(1)
+says_what_is_wrong(main)

@@ -7,6 +7,7 @@ import re
 import socket
 import struct
 import subprocess
+import sys
 import time
 
 HERE = os.path.dirname(os.path.dirname(os.path.abspath(__file__)))
@@ -155,3 +156,12 @@ def await_told(viewer, told):
 def differing(ours, real):
     """How many places of two viewers' pictures differ."""
     return sum(ours.places[k : k + 3] != real.places[k : k + 3] for k in range(0, len(ours.places), 4))
+
+
+def says_what_is_wrong(check):
+    """Makes a check. Where something isn't as it should be, prints what, and ends with 1."""
+    try:
+        check()
+    except (OSError, EOFError, subprocess.TimeoutExpired) as error:
+        print(f"WRONG: {error or 'the server closed the connection'}")
+        sys.exit(1)
