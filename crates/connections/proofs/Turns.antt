@@ -1,8 +1,6 @@
 -- What a step of one connection, or of the screen, makes of all of them.
 use Rattle.std.proofs.Common.{◌≡◌, ◌≢◌, ◌⊎◌, ℕ, Bool, true, false, List, [], ◌∷◌, ◌++◌, Option, Some, None, Result, refl, sym, ap, ◌∙◌, append_assoc, append-nil, subst, inl, inr, arith}
-use Rattle.std.specs.Prelude.{IfSome, ◌&&◌, ◌≤◌, length, option_map}
-use Rattle.std.specs.Io.KnownBytes.{Keeps}
-use Rattle.std.proofs.KnownBytes.{Appends-nil, Appends-trans, Appends-kept, Consumes-nil, Consumes-trans, Consumes-kept}
+use Rattle.std.specs.Prelude.{IfSome, ◌&&◌, ◌≤◌, length}
 use Rattle.std.proofs.lemmas.Bool.{and_from}
 use Rattle.std.proofs.lemmas.Bool.Decides.{Decides-eqb}
 use Rattle.std.proofs.lemmas.List.Folds.{list_all-append}
@@ -31,7 +29,7 @@ use Rattle.connection.specs.Counting.{Counts, with_piece, with_cut}
 use Rattle.connections.specs.Counting.{counts_of}
 use Rattle.connection.specs.Reasons.{ended_by_read, known_by_read, ended_by_fault}
 use Rattle.connection.specs.declared.connection.Got.{Got}
-use Rattle.connection.specs.declared.connection.Got.TheVariants.{Piece, Nothing, Again, End, Failed, Wrong}
+use Rattle.connection.specs.declared.connection.Got.TheVariants.{Piece}
 use Rattle.connection.specs.Connection.{Carried, ViewerConnection, Moves, breaks_off}
 use Rattle.connection.specs.MovesLemmas.{moves-nothing, moves-then}
 use Rattle.connections.specs.Serving.{IsServed}

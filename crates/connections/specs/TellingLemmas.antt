@@ -15,7 +15,6 @@ use Rattle.connections.specs.Drawing.{are_drawings}
 use Rattle.held_inputs.specs.Held.{Held, after, roomy}
 use Rattle.connections.specs.Telling.{Word, Says, Leaves, Told, Said, Left, word_of, words_of, says, said_by, inputs_in, inputs_told, receipts_in, told_for, told_behind, words_by, words_after, IsTold, Stays}
 use Rattle.connection.specs.Holding.{held_behind}
-use Rattle.connection.specs.HoldingLemmas.{held-append, held-more}
 
 pub words-append : (c : Config) (before es fs : List Event) → words_after c before (es ++ fs) ≡ words_after c before es ++ words_after c (before ++ es) fs
 words-append c before [] fs = ap (λ l. words_after c l fs) (sym (append-nil before))

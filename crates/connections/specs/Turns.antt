@@ -1,5 +1,5 @@
 -- One viewer's connection and the screen, in the course of a turn.
-use Rattle.std.specs.Prelude.{◌≡◌, ℕ, Bool, true, false, List, [], ◌++◌, ◌≤◌, length, take, None, Result}
+use Rattle.std.specs.Prelude.{◌≡◌, ℕ, Bool, true, false, List, ◌++◌, ◌≤◌, length, None, Result}
 use Rattle.std.specs.List.{list_all}
 use Rattle.screen.specs.declared.Config.{Config}
 use Rattle.screen.specs.declared.Event.{Event}
