@@ -1,6 +1,6 @@
 pub mod Waiting
 pub mod Fits
-pub mod Drawing
+pub mod DrawingLemmas
 pub mod Turning
 pub mod TakenIn
 pub mod Taking

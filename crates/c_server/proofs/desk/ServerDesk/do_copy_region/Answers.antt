@@ -1,5 +1,5 @@
 use Rattle.std.proofs.Common.{rules, refl}
-use Rattle.c_server.proofs.Drawing.{draws_places, undrawn_places}
+use Rattle.c_server.proofs.DrawingLemmas.{draws_places, undrawn_places}
 use Rattle.c_server.proofs.desk.ServerDesk.do_copy_region.Goals as goal
 
 pub returns-in-Ok : goal.returns-in-Ok

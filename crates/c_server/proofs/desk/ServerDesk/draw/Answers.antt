@@ -1,5 +1,5 @@
 use Rattle.std.proofs.Common.{rules}
-use Rattle.c_server.proofs.Drawing.{draws, drawing_own}
+use Rattle.c_server.proofs.DrawingLemmas.{draws, drawing_own}
 use Rattle.c_server.proofs.desk.ServerDesk.draw.Goals as goal
 
 pub returns : goal.returns
