@@ -10,7 +10,7 @@ use std::marker::Model;
 use viewer::{Stream, Update};
 
 /// How many items `copy_to` copies at most: 2^30, so that their count is a code.
-const MOST: usize = 1 << 30;
+const MOST_COPIED: usize = 1 << 30;
 
 /// Output on its way to a viewer: bytes that are made, from `done` on, and what an update is still to give. Contracts see it as
 /// the viewer's number and the bytes that are still to come.
@@ -38,7 +38,7 @@ pub fn copy_to<T: Copy>(room: &mut [T], items: &[T]) -> usize
     ensures count { result ≡ min (min (length items.now) (length room.old)) (2 ^ 30) }
     ensures room { room.new ≡ take result items.now ++ drop result room.old }
 {
-    let count = items.len().min(room.len()).min(MOST);
+    let count = items.len().min(room.len()).min(MOST_COPIED);
     room[..count].copy_from_slice(&items[..count]);
     count
 }

@@ -9,7 +9,7 @@ use std::io::Read;
 use std::marker::Model;
 
 /// How many bytes are read at once, at most.
-const ROOM: usize = 65_536;
+const READ_SIZE: usize = 65_536;
 
 /// Bytes that came and weren't read: those of the room from `start` on, below `end`. Contracts see these.
 #[derive(Drop)]
@@ -36,7 +36,7 @@ impl Inbox {
         ensures { IfOk result (λ inbox. inbox ≡ []) }
     {
         Ok(Inbox {
-            room: Vec::from_elem(alloc, 0, ROOM)?,
+            room: Vec::from_elem(alloc, 0, READ_SIZE)?,
             start: 0,
             end: 0,
         })

@@ -11,7 +11,7 @@ use std::sync::ledger::Ledger;
 pub const SCRIPT_LIMIT: usize = 1 << 24;
 
 // How many bytes are asked of a reader at once.
-const PIECE: usize = 1 << 16;
+const READ_SIZE: usize = 1 << 16;
 
 fn zeros(alloc: Global, count: usize) -> Result<Vec<u8>, AllocError>
     ensures { IfOk result (λ zeros. vec_len zeros ≡ count) }
@@ -32,7 +32,7 @@ pub fn read_script<R: Read, L: Ledger>(
     ensures same_count { reader.new.steps.ghost_name ≡ reader.old.steps.ghost_name }
 {
     let mut script = Vec::new(alloc);
-    let mut piece = zeros(alloc, PIECE)?;
+    let mut piece = zeros(alloc, READ_SIZE)?;
     while script.len() <= SCRIPT_LIMIT {
         let Ok(count) = reader.read(&mut piece) else {
             return Err(Trouble::ReadFault);

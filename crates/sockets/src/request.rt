@@ -13,7 +13,7 @@ use std::time::Instant;
 use web_opening::{Admission, MOST_BYTES, Opening, Verdict};
 
 /// How many bytes are read at once of what comes behind a refused request.
-const REST: usize = 4_096;
+const DISCARD_SIZE: usize = 4_096;
 
 /// How often a connection is read from in one turn, at most.
 const READS: u32 = 4;
@@ -124,7 +124,7 @@ impl<T: Transport + Peek> Request<T> {
     fn pass_over(&mut self) -> Step
         ensures { IsPassedOver result (known_of T.unread T.written self.old) (known_of T.unread T.written self.new) }
     {
-        let mut room = [0u8; REST];
+        let mut room = [0u8; DISCARD_SIZE];
         match self.transport.receive(&mut room) {
             Ok(0) => Step::Over,
             Ok(_) => Step::Continues,

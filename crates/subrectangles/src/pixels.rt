@@ -7,7 +7,7 @@ use crate::scan::stretch_from;
 use pixel_translate::Table;
 
 /// How many colours of a row are translated at a time: so few that their places are still near when they are written.
-const PIECE: usize = 256;
+const PIXELS_AT_ONCE: usize = 256;
 
 /// Writes the pixel of `one` where `piece` has it, and that of `other` everywhere else, and returns whether the piece has no other
 /// colours than these. Has no branch in its loop, so that one step writes many places.
@@ -87,7 +87,7 @@ pub(crate) fn write_row(places: &mut [u32], row: &[u32], table: &Table)
 {
     let mut from = 0;
     while from < row.len() {
-        let end = from + (row.len() - from).min(PIECE);
+        let end = from + (row.len() - from).min(PIXELS_AT_ONCE);
         write_piece(&mut places[from..end], &row[from..end], table);
         from = end;
     }

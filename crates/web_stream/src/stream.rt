@@ -18,7 +18,7 @@ use std::io::{ErrorKind, Read, Write};
 use std::os::fd::{AsRawFd, RawFd};
 
 /// How many bytes are read of the stream below at once, at most.
-const PIECE: usize = 256;
+const READ_SIZE: usize = 256;
 
 /// A WebSocket over a stream, at the server's side.
 ///
@@ -108,8 +108,8 @@ impl<S: Read> WebStream<S> {
         ensures bytes { TakesPiece (remaining_in S.remaining self.old) (remaining_in S.remaining self.new) result room.new }
         ensures reading { ReadsOn (S.remaining self.old.stream) (S.remaining self.new.stream) (reading_of self.old.inward) (reading_of self.new.inward) }
     {
-        let mut all = [0u8; PIECE];
-        let most = room.len().min(PIECE);
+        let mut all = [0u8; READ_SIZE];
+        let most = room.len().min(READ_SIZE);
         let piece = &mut all[..most];
         self.was_full = false;
         let count = self.stream.read(piece)?;
