@@ -1,10 +1,11 @@
 #!/usr/bin/env python3
-"""life.py PROGRAM [--connections 200000] [--at-once 8] [--threads]: a long life of `vncdemo serve --forever`, by one thread, or with --threads
-by two a viewer. So many viewers come and go, some at once: each opens, asks for the whole screen, takes it, holds a key down and leaves, every
-eighth by a reset and every ninth in its opening. It prints what memory the server takes after a thousand of them, after each tenth of all, and at
-the end. The status is 1 where the server ended, a picture had another length, or it took a tenth of a MB more at the end than after the first
-thousand. With --threads the C library is told to keep all memory in one arena (MALLOC_ARENA_MAX=1): else each of up to eight a processor
-fills to its own bound, one by one, in hours."""
+"""life.py PROGRAM [--connections 200000] [--at-once 8] [--first-at-once 24] [--threads] [--arenas N]: a long life of `vncdemo serve --forever`, by
+one thread, or with --threads by two a viewer. So many viewers come and go, some at once, and the first thousand more at once: what a server takes
+is what the most viewers took that were there together. Each opens, asks for the whole screen, takes it, holds a key down and leaves, every eighth
+by a reset and every ninth in its opening. It prints what memory the server takes after a thousand of them, after each tenth of all, and at the
+end. The status is 1 where the server ended, a picture had another length, or it took a tenth of a MB more at the end than after the first
+thousand. With --threads the C library is told to keep all memory in N arenas, one unless another number is given (MALLOC_ARENA_MAX); with
+--arenas 0 it has its own way, up to eight a processor."""
 import argparse
 import os
 import re
@@ -72,16 +73,18 @@ def main():
     p.add_argument("program")
     p.add_argument("--connections", type=int, default=200_000)
     p.add_argument("--at-once", type=int, default=8)
+    p.add_argument("--first-at-once", type=int, default=24)
     p.add_argument("--threads", action="store_true")
+    p.add_argument("--arenas", type=int, default=1)
     opts = p.parse_args()
     words = ["serve", "--forever", "--port", "0", "--width", str(WIDTH), "--height", str(HEIGHT), "--viewers", "64"]
     way = [] if opts.threads else ["--one-thread"]
-    around = {**os.environ, "MALLOC_ARENA_MAX": "1"} if opts.threads else None
+    around = {**os.environ, "MALLOC_ARENA_MAX": str(opts.arenas)} if opts.threads and opts.arenas else None
     server = subprocess.Popen([opts.program, *words, *way], env=around, stdout=subprocess.DEVNULL, stderr=subprocess.PIPE, text=True)
     port = int(re.search(r":(\d+)$", server.stderr.readline().strip())[1])
     failed, first, done = [], None, 0
     for goal in sorted({1000, *(opts.connections * tenth // 10 for tenth in range(1, 11))}):
-        all_of(port, done, goal, opts.at_once, failed)
+        all_of(port, done, goal, opts.at_once if done else opts.first_at_once, failed)
         done = goal
         if server.poll() is not None:
             print(f"after {done} the server had ended: {server.returncode}")

@@ -27,7 +27,7 @@ for name in vnc_screen vnc_server; do
         [ -d "$top/$library" ] || { echo "archives.sh: $library is not there: run rt ci" >&2 && exit 1; }
         # (rt ci puts back what an earlier rt check or rt lib left)
         # shellcheck disable=SC2046
-        newer=$(find $(files_of "$top/crates/$dep") -newer "$top/$library")
+        newer=$(cd "$top/crates" && find $(files_of "$dep") -newer "$top/$library")
         [ -z "$newer" ] || { echo "archives.sh: older than its source is $library: remove crates/*/out, and run rt ci" >&2 && exit 1; }
         set -- "$@" -L "dependency=$top/crates/$dep/out/rlib"
     done

@@ -90,9 +90,13 @@ for name; do
     number=$(sed -n "s/^#define ${upper}_ABI //p" "$here/$name.h")
     shared=lib$name.so.$number
     printf '%s_%s { global: vnc_*; local: *; };\n' "$upper" "$number" > "$room/map"
+    # (ar's script takes no path that has a blank, so all is brought together under plain names)
+    cp "$made" "$room/made.a"
+    parts=made.a
+    for it in $support; do cp "$it" "$room/" && parts="$parts $(basename "$it")"; done
     # shellcheck disable=SC2086
-    { printf 'CREATE %s\n' "$room/lib$name.a" && printf 'ADDLIB %s\n' "$made" $support && printf 'SAVE\nEND\n'; } > "$room/script"
-    ar -M < "$room/script"
+    { printf 'CREATE whole.a\n' && printf 'ADDLIB %s\n' $parts && printf 'SAVE\nEND\n'; } > "$room/script"
+    (cd "$room" && rm -f whole.a && ar -M < script && mv whole.a "lib$name.a")
     # shellcheck disable=SC2086
     ${CC:-cc} -shared -Wl,--whole-archive "$made" -Wl,--no-whole-archive $support -Wl,--no-undefined -Wl,-z,relro,-z,now \
         -Wl,--version-script="$room/map" -Wl,-soname,"$shared" -o "$room/$shared"

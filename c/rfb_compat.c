@@ -93,6 +93,7 @@ struct rfbCompat {
     pthread_mutex_t lock;
     pthread_t looper; /* the thread of rfbRunEventLoop, where hasLooper */
     rfbBool hasLooper;
+    rfbBool isLooping; /* it takes turns still */
     rfbBool isEnding;
     rfbBool hasFailed; /* it ended by no wish of the program's */
     struct rfbDoor door;
@@ -101,6 +102,7 @@ struct rfbCompat {
     uint64_t went; /* how many were parted with */
     int depth;   /* turns that run, as a hook may take one */
     int waiting; /* turns that wait */
+    int parting; /* clients whose clientGoneHook runs */
     long usec;   /* of rfbRunEventLoop */
     sraRect marked[MOST_MARKS];
     int marks;
@@ -431,7 +433,11 @@ static void drop(rfbClientPtr cl)
 {
     rfbScreenInfoPtr s = cl->screen;
     rfbClientPtr *at = &s->clientHead;
-    if (--cl->holds > 0 || !cl->isParted) return;
+    if (--cl->holds > 0) return;
+    if (!cl->isParted) {
+        if (cl->isGone && !cl->isDriven) wake(s); /* a turn parts with it */
+        return;
+    }
     while (*at && *at != cl) at = &(*at)->next;
     if (*at) *at = cl->next;
     s->compat->clients--;
@@ -457,7 +463,9 @@ static void part(rfbScreenInfoPtr s, rfbClientPtr cl)
     if (s->pointerClient == cl) s->pointerClient = NULL;
     cl->holds++;
     if (isFirst) s->compat->went++;
+    s->compat->parting++;
     if (isFirst && cl->clientGoneHook) cl->clientGoneHook(cl);
+    s->compat->parting--;
     drop(cl);
 }
 
@@ -472,6 +480,8 @@ static void name_host(rfbClientPtr cl, const struct sockaddr_storage *from)
         strcpy(cl->address, "unknown");
 }
 
+static void nothing_of_client(rfbClientPtr cl) { (void)cl; }
+
 /* A client of a connection that came: NULL where memory is refused. */
 static rfbClientPtr new_client(rfbScreenInfoPtr s, int connection,
                                const struct sockaddr_storage *from,
@@ -485,6 +495,7 @@ static rfbClientPtr new_client(rfbScreenInfoPtr s, int connection,
     cl->lookout = isDriven ? rfbLookoutNew(connection) : RFB_INVALID_SOCKET;
     cl->sock = cl->lookout >= 0 ? cl->lookout : connection;
     cl->state = STATE(RFB_PROTOCOL_VERSION);
+    cl->clientGoneHook = nothing_of_client;
     name_host(cl, from);
     cl->next = s->clientHead;
     s->clientHead = cl;
@@ -504,7 +515,9 @@ static void come(rfbScreenInfoPtr s, int connection,
         return;
     }
     cl->holds++;
+    cl->isAskedOf = TRUE;
     if (s->newClientHook) action = s->newClientHook(cl);
+    cl->isAskedOf = FALSE;
     if (cl->connection >= 0 && action == RFB_CLIENT_REFUSE) part(s, cl);
     cl->onHold = truth(action == RFB_CLIENT_ON_HOLD);
     if (cl->connection >= 0 && cl->onHold)
@@ -540,7 +553,8 @@ static void accept_some(rfbScreenInfoPtr s, rfbBool isDriven)
 /* Whether a client's connection waits for the server. */
 static rfbBool is_waiting(rfbClientPtr cl)
 {
-    return truth(cl->number == 0 && !cl->isClosing && !cl->isGone);
+    return truth(cl->number == 0 && !cl->isAskedOf && !cl->isClosing &&
+                 !cl->isGone);
 }
 
 /* The descriptor that the server is to have of a client's connection: where
@@ -653,6 +667,10 @@ static void hear(rfbScreenInfoPtr s)
             next.text = (char *)calloc(length + 1, 1);
         if (next.text)
             vnc_server_text(c->server, (uint8_t *)next.text, length);
+        if (next.in.kind == VNC_INPUT_TEXT && !next.text)
+            rfbErr("a viewer's text is lost: out of memory\n");
+        else if (next.in.kind == VNC_INPUT_TEXT && next.in.shortened)
+            rfbErr("a viewer's text is cut behind %zu bytes\n", length);
         c->heard[(c->first + c->inputs) % MOST_HEARD] = next;
         c->inputs++;
     }
@@ -667,13 +685,14 @@ static rfbBool is_heard(struct rfbCompat *c, uint64_t viewer)
     return truth(c->inputs == MOST_HEARD);
 }
 
-/* Tells the program's hook an input. While a client holds a button down, the
- * pointer is its alone. */
+/* Tells the program's hook an input. While a client holds a button down, and
+ * doesn't only look, the pointer is its alone. */
 static void tell(rfbScreenInfoPtr s, rfbClientPtr cl, const struct heard *heard)
 {
     const vnc_input *in = &heard->in;
     const rfbBool isAnothers =
-        truth(s->pointerClient && s->pointerClient != cl);
+        truth(s->pointerClient && s->pointerClient != cl &&
+              !s->pointerClient->viewOnly);
     if (in->kind == VNC_INPUT_POINTER && !isAnothers) {
         s->pointerClient = in->buttons ? cl : NULL;
         if (s->ptrAddEvent)
@@ -746,6 +765,7 @@ static void settle(rfbScreenInfoPtr s, rfbBool parts)
             if (!cl->isGone) note_gone(cl);
     }
     while (parts && (cl = next_to_part(s))) part(s, cl);
+    if (c->clients < MOST_VIEWERS) rfbDoorFill(&c->door, FALSE);
     if (s->socketState != RFB_SOCKET_SHUTDOWN) return;
     rfbDoorShut(&c->door);
     if (!s->clientHead || c->isEnding) end_server(s);
@@ -874,8 +894,9 @@ static int wait_of(rfbScreenInfoPtr s, int ms)
 {
     struct rfbCompat *c = s->compat;
     int most = LONGEST;
+    /* an iterator stands there, or a loop has to see that it has ended */
+    if (!c->server && (s->clientHead || ms < 0)) most = 10;
     if (ms < 0) ms = LONGEST;
-    if (!c->server && s->clientHead) most = 10; /* an iterator stands there */
     if (!c->server) return smaller(ms, most);
     if (c->isEnding || c->inputs > 0) return 0;
     if (c->marks) most = larger(s->deferUpdateTime, 0);
@@ -933,7 +954,7 @@ static rfbBool turn(rfbScreenInfoPtr s, int ms, rfbBool isDriven)
     if (c->went != went) isDue = TRUE;
     /* A program that waits by itself takes the next turn at once. */
     if (c->depth == 1 && c->server && !c->hasLooper && wait_of(s, -1) == 0)
-        vnc_waker_wake(c->waker);
+        wake(s);
     c->depth--;
     unlock(s);
     return truth(isDue && !hasTold);
@@ -1037,6 +1058,7 @@ static rfbBool is_over(rfbScreenInfoPtr s)
     lock(s);
     isOver = truth(s->compat->isEnding ||
                    (s->socketState == RFB_SOCKET_SHUTDOWN && !s->clientHead));
+    if (isOver) s->compat->isLooping = FALSE;
     unlock(s);
     return isOver;
 }
@@ -1049,18 +1071,25 @@ static void *loop(void *at)
     return NULL;
 }
 
+/* Has a thread take turns, unless one does still. One that has ended, as the
+ * server had, is joined first: it takes the lock no more. */
+static void start_looper(rfbScreenInfoPtr s)
+{
+    struct rfbCompat *c = s->compat;
+    if (c->hasLooper && c->isLooping) return;
+    if (c->hasLooper) pthread_join(c->looper, NULL);
+    c->hasLooper = c->isLooping =
+        truth(pthread_create(&c->looper, NULL, loop, s) == 0);
+    if (!c->hasLooper) rfbErr("rfbRunEventLoop: no thread\n");
+}
+
 void rfbRunEventLoop(rfbScreenInfoPtr s, long usec, rfbBool runInBackground)
 {
-    s->compat->usec = usec;
-    if (!runInBackground) {
-        loop(s);
-        return;
-    }
     lock(s);
-    if (pthread_create(&s->compat->looper, NULL, loop, s) == 0)
-        s->compat->hasLooper = TRUE;
-    else rfbErr("rfbRunEventLoop: no thread\n");
+    s->compat->usec = usec;
+    if (runInBackground) start_looper(s);
     unlock(s);
+    if (!runInBackground) loop(s);
 }
 
 /* ---- beginning and end ---- */
@@ -1074,6 +1103,22 @@ static void make_lock(pthread_mutex_t *made)
     pthread_mutexattr_destroy(&recursive);
 }
 
+static void nothing_of_key(rfbBool down, rfbKeySym key, rfbClientPtr cl)
+{
+    (void)down, (void)key, (void)cl;
+}
+
+static void nothing_of_text(char *text, int length, rfbClientPtr cl)
+{
+    (void)text, (void)length, (void)cl;
+}
+
+static enum rfbNewClientAction accept_client(rfbClientPtr cl)
+{
+    (void)cl;
+    return RFB_CLIENT_ACCEPT;
+}
+
 static void set_defaults(rfbScreenInfoPtr s)
 {
     s->whitePixel = 0xffffffff;
@@ -1083,6 +1128,9 @@ static void set_defaults(rfbScreenInfoPtr s)
     s->deferUpdateTime = 5;
     s->desktopName = "LibVNCServer";
     s->ptrAddEvent = rfbDefaultPtrAddEvent;
+    s->kbdAddEvent = nothing_of_key;
+    s->setXCutText = nothing_of_text;
+    s->newClientHook = accept_client;
 }
 
 rfbScreenInfoPtr rfbGetScreen(int *argc, char **argv, int width, int height,
@@ -1217,9 +1265,10 @@ void rfbNewFramebuffer(rfbScreenInfoPtr s, char *frameBuffer, int width,
     int32_t code = 0;
     lock(s);
     if (!rfbSetFormat(s, width, height, bitsPerSample, samplesPerPixel,
-                    bytesPerPixel))
+                    bytesPerPixel)) {
         code = VNC_ERROR_BAD_FORMAT;
-    else if (c->server && isResized)
+        s->width = s->height = 0; /* nothing is drawn in it */
+    } else if (c->server && isResized)
         code = vnc_server_new_framebuffer(c->server, (uint32_t)width,
                                           (uint32_t)height);
     if (code < 0) {
@@ -1235,9 +1284,12 @@ void rfbNewFramebuffer(rfbScreenInfoPtr s, char *frameBuffer, int width,
 void rfbShutdownServer(rfbScreenInfoPtr s, rfbBool disconnectClients)
 {
     struct rfbCompat *c = s->compat;
-    const rfbBool joins = truth(disconnectClients && c->hasLooper &&
-                                !pthread_equal(c->looper, pthread_self()));
+    rfbBool isInHook, joins;
     lock(s);
+    /* other threads' turns wait; the loop wants the lock that a hook has */
+    isInHook = truth(c->depth > c->waiting || c->parting > 0);
+    joins = truth(disconnectClients && c->hasLooper && !isInHook &&
+                  !pthread_equal(c->looper, pthread_self()));
     s->socketState = RFB_SOCKET_SHUTDOWN;
     rfbDoorShut(&c->door);
     if (disconnectClients) c->isEnding = TRUE;

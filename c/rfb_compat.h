@@ -152,6 +152,8 @@ typedef struct _rfbScreenInfo {
     rfbBool alwaysShared, neverShared, dontDisconnect;
     struct _rfbClientRec *clientHead, *pointerClient;
     char *frameBuffer; /* the program's */
+    /* Each may be NULL. At first the pointer's moves cursorX and cursorY, and
+     * the others do nothing, but that newClientHook accepts. */
     rfbKbdAddEventProcPtr kbdAddEvent;
     rfbPtrAddEventProcPtr ptrAddEvent;
     rfbSetXCutTextProcPtr setXCutText;
@@ -177,7 +179,7 @@ typedef struct _rfbScreenInfo {
 typedef struct _rfbClientRec {
     rfbScreenInfoPtr screen;
     void *clientData; /* the program's, for clientGoneHook to free */
-    ClientGoneHookPtr clientGoneHook;
+    ClientGoneHookPtr clientGoneHook; /* it may be NULL; at first nothing */
     /* Its connection, to wait for by poll, and to be asked for its address: no
      * read, write or close is to be called on it. -1 once it has left. See
      * rfbProcessClientMessage. */
@@ -214,6 +216,7 @@ typedef struct _rfbClientRec {
     int connection;    /* its socket, where the layer has it, or -1 */
     int lookout;       /* what is sock's in newClientHook, or -1 */
     rfbBool isDriven;  /* it came by a turn of a program that drives sockets */
+    rfbBool isAskedOf; /* its newClientHook runs */
     rfbBool isOpen;    /* its opening is over */
     rfbBool hasAsked;  /* it has asked for all */
     rfbBool isClosing; /* it is to be closed */
@@ -231,7 +234,8 @@ typedef struct _rfbClientRec {
  * NULL too for -help, for a word whose value is missing, and where -listen's is
  * neither an IPv4 address in digits nor localhost nor any. What happens is
  * recorded in -record's file, which rfbInitServer makes, and vncdemo replay
- * reads: vnc_server_record of vnc_server.h. */
+ * reads: vnc_server_record of vnc_server.h. Such a screen is served once, as
+ * its file is there the second time. */
 rfbScreenInfoPtr rfbGetScreen(int *argc, char **argv, int width, int height,
                               int bitsPerSample, int samplesPerPixel,
                               int bytesPerPixel);
@@ -246,7 +250,8 @@ void rfbInitServer(rfbScreenInfoPtr s);
 
 /* Another frameBuffer, also of another size. Viewers that can't be told a new
  * size see the part of it within their own. Where it is refused, rfbErr says
- * so, and the server ends with this turn. */
+ * so, and the server ends with this turn; one that no screen may have leaves
+ * width and height 0, so that nothing is drawn in it. */
 void rfbNewFramebuffer(rfbScreenInfoPtr s, char *frameBuffer, int width,
                        int height, int bitsPerSample, int samplesPerPixel,
                        int bytesPerPixel);

@@ -10,17 +10,16 @@ rfbBool rfbSetFormat(rfbScreenInfoPtr s, int width, int height, int bits,
 {
     const uint16_t max = (uint16_t)((1 << (bits & 15)) - 1);
     const rfbPixelFormat sampled = {
-        (uint8_t)(8 * bytes), (uint8_t)(bits * samples), 0,   1,
-        max,                  max,                       max, 0,
+        (uint8_t)(8 * bytes), (uint8_t)(8 * bytes), 0, 1, max, max, max, 0,
         (uint8_t)bits,        (uint8_t)(2 * bits)};
     const rfbPixelFormat of_a_byte = {8, 8, 0, 1, 7, 7, 3, 0, 3, 6};
+    (void)samples; /* as in LibVNCServer, which only tells it */
     if (width < 1 || width > RFB_MOST_COLUMNS) return FALSE;
     if (height < 1 || height > RFB_MOST_ROWS) return FALSE;
     if (bits < 1 || bits > 10 || bytes < 1 || bytes > 4) return FALSE;
     s->width = width;
     s->height = height;
-    s->depth = bits * samples;
-    s->bitsPerPixel = 8 * bytes;
+    s->depth = s->bitsPerPixel = 8 * bytes; /* as in LibVNCServer */
     s->paddedWidthInBytes = width * bytes;
     s->sizeInBytes = width * bytes * height;
     s->serverFormat = bytes == 1 ? of_a_byte : sampled;
@@ -54,7 +53,8 @@ static void copy_row(rfbScreenInfoPtr s, const sraRect *to, size_t count,
 }
 
 /* Takes the rows in such an order that none is read that was written; of
- * several rectangles each row is kept aside first. */
+ * several rectangles each row is kept aside first. Where there is no memory for
+ * that, nothing is moved. */
 void rfbCopyPixels(rfbScreenInfoPtr s, const sraRect *to, size_t count, int dx,
                    int dy)
 {
@@ -62,7 +62,7 @@ void rfbCopyPixels(rfbScreenInfoPtr s, const sraRect *to, size_t count, int dx,
     const ptrdiff_t pitch = s->paddedWidthInBytes;
     const sraRect one =
         rfbCopied(s, count == 1 ? *to : rect_of(0, 0, 0, 0), dx, dy);
-    char aside[4 * RFB_MOST_COLUMNS];
+    char *aside = NULL;
     if (one.x2 - one.x1 == s->width && pitch == s->width * bytes) {
         /* whole rows */
         memmove(s->frameBuffer + one.y1 * pitch,
@@ -70,15 +70,23 @@ void rfbCopyPixels(rfbScreenInfoPtr s, const sraRect *to, size_t count, int dx,
                 (size_t)((one.y2 - one.y1) * pitch));
         return;
     }
+    if (count > 1) {
+        aside = (char *)malloc((size_t)(s->width * bytes));
+        if (!aside) {
+            rfbErr("rfbDoCopyRegion: out of memory\n");
+            return;
+        }
+    }
     for (int i = larger(dy, 0); i < s->height + smaller(dy, 0); i++) {
         const int y = dy > 0 ? s->height - 1 - i + dy : i;
         const char *from = s->frameBuffer + (y - dy) * pitch;
-        if (count > 1) {
+        if (aside) {
             memcpy(aside, from, (size_t)(s->width * bytes));
             from = aside;
         }
         copy_row(s, to, count, dx, dy, y, from);
     }
+    free(aside);
 }
 
 /* ---- drawing ---- */

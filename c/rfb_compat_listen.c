@@ -269,7 +269,7 @@ int rfbDoorNext(struct rfbDoor *door, rfbBool isBusy,
 {
     int64_t now, pause;
     int fd;
-    if (!door->isKnocked || door->listeners[0] < 0 || rests(door)) return -1;
+    if (!door->isKnocked || rests(door) || door->listeners[0] < 0) return -1;
     now = microseconds();
     pause = isBusy ? door->due - now - AHEAD : 0;
     if (pause > 0) {

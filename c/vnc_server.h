@@ -25,9 +25,9 @@
  *            and only vnc_server_process_events waits; a signal ends its wait.
  * Results    0 or more: done. Below 0: a vnc_code, which vnc_code_text tells,
  *            and nothing has changed; vnc_server_process_events,
- *            vnc_server_update_from and vnc_server_adopt say what has. A call
- *            of a closed server answers VNC_ERROR_CLOSED, but for those that
- *            say otherwise.
+ *            vnc_server_update_from, vnc_server_adopt and vnc_server_listen_at
+ *            say what has. A call of a closed server answers VNC_ERROR_CLOSED,
+ *            but for those that say otherwise.
  *            VNC_ERROR_NO_MEMORY may come from each call that draws,
  *            listens, takes a turn or says so.
  * errno      Says why, where the system refused: behind
@@ -122,7 +122,8 @@ int32_t vnc_server_listen_n(vnc_server *server,
                             uint32_t viewers);
 
 /* Listens, and serves a black picture (rfbGetScreen, rfbInitServer). An open
- * server is closed once this is done, and goes on where it is refused.
+ * server is closed once this is done, and goes on where it is refused: it has
+ * its port until then, which can't be asked for again.
  *   address  an IP address in digits: "127.0.0.1", "::1", "0.0.0.0" for all of
  *            the machine's of IPv4, "::" for all
  *   port     0 for one that the system chooses: see vnc_server_port
@@ -208,8 +209,9 @@ int32_t vnc_server_listen_web_n(vnc_server *server,
                                 const uint8_t *origins, size_t origin_count);
 
 /* Listens on a port for browsers, which are viewers over WebSockets (RFC 6455),
- * as noVNC is; in place of one on which it listened for them before. TLS is
- * for a proxy in front. `address` and `port` are as those of vnc_server_listen.
+ * as noVNC is; in place of one on which it listened for them before, which has
+ * to be another port. TLS is for a proxy in front. `address` and `port` are as
+ * those of vnc_server_listen.
  *   hosts    which names in a request's Host are let in besides 127.0.0.1,
  *            localhost and [::1] at any port: each as a browser writes it, as
  *            "desk.example:6080", with commas in between; "" for no other
@@ -217,8 +219,9 @@ int32_t vnc_server_listen_web_n(vnc_server *server,
  *            it, as "https://page.example", with commas in between; "" for
  *            none: then a page has to come from the very host and port that it
  *            asks for
- * Any other request is answered 403 and closed, so a page of a foreign site
- * can't reach the server through its reader's browser. At most 64 browsers wait
+ * A request whose host or origin isn't let in is answered 403, so a page of a
+ * foreign site can't reach the server through its reader's browser. A program
+ * that is no browser names no origin, and is let in. At most 64 browsers wait
  * for their answer, each for at most 10 seconds; none of them is a viewer yet.
  * Returns the port, or VNC_ERROR_BAD_ADDRESS, VNC_ERROR_CANNOT_LISTEN or
  * VNC_ERROR_NO_MEMORY. */

@@ -70,7 +70,7 @@ static inline const char *vnc_code_text(int32_t code)
     case VNC_ERROR_TOO_FEW_BYTES: return "the rows take more bytes";
     case VNC_ERROR_CANNOT_RECORD: return "the record's file can't be made";
     case VNC_ERROR_VERSION: return "the library is of another version";
-    case VNC_ERROR_BAD_SOCKET: return "not a socket that is connected";
+    case VNC_ERROR_BAD_SOCKET: return "not a socket for this call";
     case VNC_ERROR_FULL: return "too many viewers";
     case VNC_ERROR_CANNOT_ADOPT: return "the connection can't be taken in";
     case VNC_ERROR_TOO_MANY_PORTS: return "it listens on eight ports already";

@@ -27,7 +27,7 @@ static rfbScreenInfoPtr s;
 static guest guests[MOST];
 static char picture[W * H * 4];
 static enum rfbNewClientAction action;
-static enum { NOTHING, REFUSES, CLOSES, PARTS, PARTS_WITH_OTHER } hook_does;
+static enum { NOTHING, REFUSES, CLOSES, PARTS, PARTS_WITH_OTHER, TAKES_TURNS, SHUTS } hook_does;
 static rfbClientPtr other;
 static int came, asked, gone, keys, ready_count, rfb_errors;
 static double next_update, patience = 20;
@@ -52,6 +52,7 @@ static void leave(rfbClientPtr cl)
     guest *g = (guest *)cl->clientData;
     gone++;
     if (g->cl == cl) memset(g, 0, sizeof *g), g->fd = -1;
+    if (hook_does == SHUTS) rfbShutdownServer(s, TRUE);
     if (hook_does == PARTS_WITH_OTHER) {
         hook_does = NOTHING;
         rfbClientConnectionGone(other);
@@ -70,6 +71,7 @@ static enum rfbNewClientAction come(rfbClientPtr cl)
     came += cl->state == STATE(RFB_PROTOCOL_VERSION) && strcmp(cl->host, "127.0.0.1") == 0;
     if (hook_does == REFUSES) rfbRefuseOnHoldClient(cl);
     if (hook_does == CLOSES) rfbCloseClient(cl);
+    for (k = 0; k < 5 && hook_does == TAKES_TURNS; k++) k % 2 ? rfbProcessEvents(s, 2000) : rfbProcessNewConnection(s);
     return action;
 }
 
@@ -506,8 +508,9 @@ static int full(void)
     for (k = 0; k < 20; k++) rfbProcessEvents(s, 10000);
     HOLDS(came == ALL_OF_THEM && gone == 0 && waits(viewers[ALL_OF_THEM]));
     close(viewers[7]);
-    while (came == ALL_OF_THEM && seconds() < end) rfbProcessEvents(s, 1000);
-    HOLDS(came == ALL_OF_THEM + 1 && gone == 1);
+    end = seconds() + patience;
+    while (came == ALL_OF_THEM && seconds() < end) rfbProcessEvents(s, 60000000); /* the turn in which one leaves has the other come */
+    HOLDS(came == ALL_OF_THEM + 1 && gone == 1 && seconds() < end);
     rfbScreenCleanup(s);
     HOLDS(gone == ALL_OF_THEM + 1);
     for (k = 0; k <= ALL_OF_THEM; k++)
@@ -562,6 +565,50 @@ static int hooks(void)
     return 0;
 }
 
+/* A program that asks its user takes turns meanwhile: nobody is served before it has said so, and who is refused never is. */
+static int questions(void)
+{
+    int way, fd, k;
+    for (way = LOOP; way <= EVENTS; way++) {
+        s = screen();
+        hook_does = TAKES_TURNS;
+        action = RFB_CLIENT_REFUSE;
+        HOLDS((fd = connects()) >= 0 && says(fd, OPENING, 14) && ends_in(fd, way) && gone == 1 && s->clientHead == NULL);
+        action = RFB_CLIENT_ACCEPT;
+        HOLDS((fd = connects()) >= 0 && says(fd, OPENING, 14));
+        for (k = 0; k < 50 || (k < 3000 && !s->clientHead); k++) {
+            round_of(way);
+            if (way == LOOP && s->clientHead) ((guest *)s->clientHead->clientData)->is_pending = 0;
+        }
+        HOLDS(is_greeted(fd, way) && sees(fd, way));
+        hook_does = NOTHING;
+        close(fd);
+        rfbScreenCleanup(s);
+        IS(gone, 2);
+    }
+    return 0;
+}
+
+/* Many come at once, so that accepting rests, and then the server is shut: the loop isn't woken again and again. */
+static int shut_at_rest(void)
+{
+    int served, k, before;
+    s = screen();
+    HOLDS((served = comes()) >= 0 && is_served(served));
+    action = RFB_CLIENT_REFUSE;
+    for (k = 0; k < 50; k++) close(connects());
+    for (k = 0; k < 5; k++) loops(5);
+    rfbShutdownServer(s, FALSE);
+    loops_for(0.3);
+    before = ready_count;
+    loops_for(0.5);
+    HOLDS(ready_count - before < 30 && sees(served, LOOP));
+    close(served);
+    loops_for(0.1);
+    rfbScreenCleanup(s);
+    return 0;
+}
+
 /* ---- and in another thread ---- */
 
 static int sleeps_until(const int *count, int wanted)
@@ -604,6 +651,69 @@ static int background(void)
     return 0;
 }
 
+/* A server is begun anew while its loop runs still, and once it has ended; each time its viewers are shown the picture. */
+static int begun_anew(void)
+{
+    int fd[3], k;
+    s = screen();
+    action = RFB_CLIENT_ACCEPT;
+    for (k = 0; k < 3; k++) {
+        rfbRunEventLoop(s, -1, TRUE);
+        HOLDS((fd[k] = connects()) >= 0 && says(fd[k], OPENING, 14) && is_greeted(fd[k], THREAD) && sees(fd[k], THREAD));
+        if (k == 1) HOLDS(sees(fd[0], THREAD));
+        rfbShutdownServer(s, k > 0);
+        if (k == 1) HOLDS(gone == 2 && ends_in(fd[0], THREAD) && ends_in(fd[1], THREAD));
+        if (k < 2) rfbInitServer(s);
+    }
+    HOLDS(gone == 3 && ends_in(fd[2], THREAD) && !rfbIsActive(s));
+    rfbScreenCleanup(s);
+    return 0;
+}
+
+/* A loop that waits without end sees that the server was shut, whenever that was, and that an iterator let a client go that has left. */
+static int woken(void)
+{
+    double begun = seconds();
+    rfbClientIteratorPtr all;
+    int fd, k;
+    for (k = 0; k < 100; k++) {
+        s = screen();
+        rfbRunEventLoop(s, -1, TRUE);
+        rfbShutdownServer(s, FALSE);
+        rfbScreenCleanup(s);
+    }
+    HOLDS(seconds() - begun < 2 * patience);
+    s = screen();
+    action = RFB_CLIENT_ACCEPT;
+    rfbRunEventLoop(s, -1, TRUE);
+    HOLDS((fd = connects()) >= 0 && says(fd, OPENING, 14) && is_greeted(fd, THREAD) && sees(fd, THREAD));
+    HOLDS((all = rfbGetClientIterator(s)) != NULL && rfbClientIteratorNext(all) != NULL);
+    close(fd);
+    for (k = 0; k < 100; k++) round_of(THREAD);
+    IS(gone, 0);
+    HOLDS(rfbClientIteratorNext(all) == NULL && sleeps_until(&gone, 1));
+    rfbReleaseClientIterator(all);
+    rfbScreenCleanup(s);
+    return 0;
+}
+
+/* A hook that another thread's call runs shuts the server, and doesn't wait for the loop, which waits for it. */
+static int shut_in_hook(void)
+{
+    int fd;
+    s = screen();
+    rfbRunEventLoop(s, -1, TRUE);
+    HOLDS((fd = connects()) >= 0 && sleeps_until(&came, 1));
+    hook_does = SHUTS;
+    rfbRefuseOnHoldClient(newest());
+    hook_does = NOTHING;
+    HOLDS(gone == 1 && ends_in(fd, THREAD));
+    rfbShutdownServer(s, TRUE);
+    HOLDS(!rfbIsActive(s));
+    rfbScreenCleanup(s);
+    return 0;
+}
+
 /* Nothing that is encrypted is like anything. */
 static int passwords(void)
 {
@@ -622,7 +732,8 @@ int main(int argc, char **argv)
     (void)argv;
     if (argc > 1) patience = 3;
     rfbErr = err;
-    DO(admission() || refusals() || records() || ending() || floods() || no_room() || full() || hooks() || background() || passwords());
+    DO(admission() || refusals() || records() || ending() || floods() || no_room() || full() || hooks() || questions() || shut_at_rest() || background() ||
+       begun_anew() || woken() || shut_in_hook() || passwords());
     puts("rfb_drive ok");
     return 0;
 }

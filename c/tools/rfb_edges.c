@@ -38,7 +38,7 @@ static void leave(rfbClientPtr cl) { gone++; free(cl->clientData); }
 static enum rfbNewClientAction come(rfbClientPtr cl)
 {
     newest = cl;
-    strangers += strcmp(cl->host, "127.0.0.1") != 0;
+    strangers += strcmp(cl->host, "127.0.0.1") != 0 || cl->clientGoneHook == NULL;
     cl->clientData = malloc(1);
     cl->clientGoneHook = leave;
     return refuses == 0 ? RFB_CLIENT_ACCEPT : refuses == 1 ? RFB_CLIENT_REFUSE : RFB_CLIENT_ON_HOLD;
@@ -882,6 +882,107 @@ static int ends_of_int(void)
     return 0;
 }
 
+/* A program that is wider by itself than a screen may be has its copies; one that is refused has nothing drawn in its buffer of no size. */
+static int large(void)
+{
+    enum { WIDE = 10000, HIGH = 4 };
+    rfbScreenInfoPtr s = screen(4);
+    sraRegionPtr r = sraRgnCreateRect(1, 0, 3, 2), q = sraRgnCreateRect(WIDE - 3, 1, WIDE, HIGH);
+    uint32_t *wide = (uint32_t *)malloc(WIDE * HIGH * 4);
+    int k, k_from, off = 0;
+    if (!r || !q || !wide) exit(3);
+    sraRgnOr(r, q);
+    for (k = 0; k < WIDE * HIGH; k++) wide[k] = (uint32_t)k;
+    free(s->frameBuffer);
+    s->frameBuffer = (char *)wide, s->width = WIDE, s->height = HIGH, s->paddedWidthInBytes = 4 * WIDE;
+    errors = 0;
+    rfbDoCopyRegion(s, r, 1, 0);
+    for (k = 0; k < WIDE * HIGH; k++) {
+        const int x = k % WIDE, y = k / WIDE;
+        k_from = (x >= 1 && x < 3 && y < 2) || (x >= WIDE - 3 && y >= 1) ? k - 1 : k;
+        off += wide[k] != (uint32_t)(errors ? k : k_from); /* nothing is moved where memory is refused, which is said */
+    }
+    IS(off, 0);
+    clean(s);
+    sraRgnDestroy(r);
+    sraRgnDestroy(q);
+    s = screen(4);
+    free(s->frameBuffer);
+    rfbInitServer(s);
+    errors = 0;
+    rfbNewFramebuffer(s, (char *)malloc(1), 0, 0, 8, 3, 4);
+    IS(errors == 1 && s->width == 0 && s->height == 0, 1);
+    rfbFillRect(s, 0, 0, W, H, 1);
+    rfbDrawLine(s, 0, 0, W, H, 1);
+    rfbDoCopyRect(s, 0, 0, W, H, 1, 0);
+    rfbMarkRectAsModified(s, 0, 0, W, H);
+    rfbProcessEvents(s, 0);
+    IS(rfbIsActive(s), 0);
+    clean(s);
+    return 0;
+}
+
+/* The hooks of a screen that a program hasn't set, which it may call, and the depth that it tells. */
+static int defaults(void)
+{
+    rfbScreenInfoPtr s = rfbGetScreen(NULL, NULL, W, H, 8, 3, 4);
+    if (!s) exit(3);
+    s->kbdAddEvent(TRUE, XK_a, NULL);
+    s->setXCutText(said, 1, NULL);
+    IS(s->newClientHook(NULL), RFB_CLIENT_ACCEPT);
+    IS(s->depth == 32 && s->serverFormat.depth == 32 && s->bitsPerPixel == 32, 1);
+    rfbScreenCleanup(s);
+    return 0;
+}
+
+/* The viewer says so many bytes, and the server takes turns meanwhile. */
+static int says_all(rfbScreenInfoPtr s, int fd, const char *bytes, size_t count)
+{
+    size_t at = 0;
+    int tries;
+    for (tries = 0; at < count && tries < 3000; tries++) {
+        const ssize_t n = send(fd, bytes + at, count - at, MSG_NOSIGNAL | MSG_DONTWAIT);
+        if (n > 0) at += (size_t)n;
+        rfbProcessEvents(s, n > 0 ? 0 : 1000);
+    }
+    return at == count ? 0 : -1;
+}
+
+#define PRESS "\x05\x01\0\x03\0\x04"
+#define RELEASE "\x05\0\0\x03\0\x04"
+
+/* The pointer is another's where who holds a button down is to look alone. A text that is too long is cut, which is said. */
+static int lookers(void)
+{
+    static char text_of[8 + 262145] = "\x06\0\0\0\0\x04\0\0";
+    rfbScreenInfoPtr s = screen(4);
+    rfbClientPtr first;
+    viewer v, w;
+    int k;
+    points = gone = 0;
+    rfbInitServer(s);
+    IS(opens(s, &v, 0), 0);
+    first = newest;
+    IS(opens(s, &w, 0), 0);
+    IS(says(v.fd, PRESS, 6), 0);
+    IS(turns(s, &points, 1), 1);
+    IS(says(w.fd, PRESS RELEASE, 12), 0);
+    for (k = 0; k < 50; k++) rfbProcessEvents(s, 1000);
+    IS(points, 1);
+    first->viewOnly = TRUE;
+    IS(says(v.fd, RELEASE, 6) || says(w.fd, PRESS RELEASE PRESS, 18), 0);
+    IS(turns(s, &points, 3), 1);
+    text_of[7] = 1;
+    errors = 0;
+    IS(says_all(s, w.fd, text_of, 8 + 262145), 0);
+    IS(turns(s, &errors, 1), 1);
+    IS(strstr(error, "cut") != NULL, 1);
+    close(v.fd);
+    close(w.fd);
+    clean(s);
+    return 0;
+}
+
 /* How many clients there are of this machine. */
 static int clients_of(rfbScreenInfoPtr s)
 {
@@ -927,7 +1028,7 @@ static int begins(void)
     return refused() || arguments() || ports() || versions() || values() || floods() || leaving() || iterators() || cursors() || sizes() || own_loop();
 }
 
-static int goes_on(void) { return recorded() || later() || pictures(4) || pictures(2) || moves() || clients() || ends_of_int() || background(); }
+static int goes_on(void) { return recorded() || later() || pictures(4) || pictures(2) || moves() || clients() || ends_of_int() || large() || defaults() || lookers() || background(); }
 
 /* With an argument the second half comes first. */
 int main(int argc, char **argv)
