@@ -70,7 +70,7 @@ pub enum Chosen {
 }
 
 /// The version that `--version` prints.
-pub const VERSION: &str = "0.1";
+pub const VERSION: &str = "0.2";
 
 /// What `play --help` says of the script, behind the usage.
 const SCRIPT_HELP: &str = "\
@@ -379,13 +379,19 @@ fn serve_of(alloc: Global, matches: &ArgMatches<'_>) -> Result<Chosen, AllocErro
     })
 }
 
-/// Returns what is wrong with those that are of browsers.
-fn objection_to_web(matches: &ArgMatches<'_>) -> Option<&'static str> {
-    if matches.get_one::<u16>("web").is_some() {
-        return (!matches.get_flag("one-thread")).then_some(NO_BROWSERS);
-    }
+/// Returns what is wrong where browsers are named, and no port is for them.
+pub(crate) fn objection_to_names(matches: &ArgMatches<'_>) -> Option<&'static str> {
     let has_names = matches.get_str("host").is_some() || matches.get_str("origin").is_some();
-    has_names.then_some(NO_PORT)
+    let has_port = matches.get_one::<u16>("web").is_some();
+    (has_names && !has_port).then_some(NO_PORT)
+}
+
+/// Returns what is wrong with options of `serve` that are of browsers.
+fn objection_to_web(matches: &ArgMatches<'_>) -> Option<&'static str> {
+    if matches.get_one::<u16>("web").is_some() && !matches.get_flag("one-thread") {
+        return Some(NO_BROWSERS);
+    }
+    objection_to_names(matches)
 }
 
 /// Returns what is wrong with options of `serve` of which each is fine alone, or `None` if they are fine together.

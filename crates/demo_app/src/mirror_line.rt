@@ -5,7 +5,9 @@ ghost use Rattle.std.specs.Option.{option_map_or};
 ghost use Rattle.std.specs.Str.{bytes_eq};
 ghost use Rattle.demo_app.specs.CommandLine.{HasViewers};
 
-use crate::command_line::{Chosen, MOST_BY_ONE, VERSION, flag, option, web_of, with_web};
+use crate::command_line::{
+    Chosen, MOST_BY_ONE, VERSION, flag, objection_to_names, option, web_of, with_web,
+};
 use clap::error::ErrorKind;
 use clap::{Arg, ArgMatches, Command, Error, value_parser};
 use mirror::MirrorOptions;
@@ -111,6 +113,12 @@ fn mirror_of(alloc: Global, matches: &ArgMatches<'_>) -> Result<Option<Chosen>, 
     }))
 }
 
+/// Returns the error of a line that begins with `mirror`, and has something wrong.
+fn refusal(alloc: Global, objection: &str) -> Result<Error, AllocError> {
+    let mut command = mirror_command(alloc)?.bin_name("vncdemo mirror")?;
+    command.error(ErrorKind::ValueValidation, objection)
+}
+
 /// Returns what a line that begins with `mirror` chooses.
 pub(crate) fn mirror_line(alloc: Global, words: &[String]) -> Result<Chosen, Error>
     ensures { IfOk result HasViewers }
@@ -123,12 +131,12 @@ pub(crate) fn mirror_line(alloc: Global, words: &[String]) -> Result<Chosen, Err
     let Some(matches) = matches.subcommand_matches("mirror") else {
         return Err(Error::from(AllocError));
     };
+    if let Some(objection) = objection_to_names(matches) {
+        return Err(refusal(alloc, objection)?);
+    }
     match mirror_of(alloc, matches)? {
         Some(chosen) => Ok(chosen),
-        None => {
-            let mut command = mirror_command(alloc)?.bin_name("vncdemo mirror")?;
-            Err(command.error(ErrorKind::ValueValidation, NO_ADDRESS)?)
-        }
+        None => Err(refusal(alloc, NO_ADDRESS)?),
     }
 }
 

@@ -194,11 +194,11 @@ const OTHER_COMMANDS: &[&str] = &[
 
 const VIEWERS_OF_SELF: &str = " how many viewers there are, 1 to 8 [default: 2]\n";
 
-static LINES: [(&str, Outcome); 62] = [
+static LINES: [(&str, Outcome); 63] = [
     ("vncdemo play", Is("play")),
     ("vncdemo", REFUSED),
     ("vncdemo --help", Has("refused: ", OTHER_COMMANDS)),
-    ("vncdemo --version", Is("refused: vncdemo 0.1\n")),
+    ("vncdemo --version", Is("refused: vncdemo 0.2\n")),
     (
         "vncdemo play --help",
         Has(
@@ -267,6 +267,13 @@ static LINES: [(&str, Outcome); 62] = [
     ("vncdemo mirror 127.0.0.1:5901 --listen here", REFUSED),
     ("vncdemo mirror 127.0.0.1:5901 --viewers 0", REFUSED),
     ("vncdemo mirror 127.0.0.1:5901 --viewers 1025", REFUSED),
+    (
+        "vncdemo mirror 127.0.0.1:5901 --host here",
+        Has(
+            "refused: error: ",
+            &["'--host' and '--origin' are of browsers, which come by '--web'"],
+        ),
+    ),
     // records
     (
         "vncdemo serve --one-thread --record kept.txt",
