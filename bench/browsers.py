@@ -309,7 +309,7 @@ def ends(web, data, chance):
             stream.shutdown(socket.SHUT_WR)
             while stream.recv(1 << 16):
                 pass
-        except TimeoutError:
+        except socket.timeout:  # (TimeoutError is another before Python 3.10)
             return False
         except OSError:
             pass

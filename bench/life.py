@@ -48,8 +48,9 @@ def visit(port, number):
 
 
 def memory_kb(pid):
-    with open(f"/proc/{pid}/status") as it:
-        return int(re.search(r"VmRSS:\s+(\d+) kB", it.read())[1])
+    # (counted anew: VmRSS lags behind by a hundred KB and more)
+    with open(f"/proc/{pid}/smaps_rollup", encoding="ascii") as it:
+        return int(re.search(r"^Rss:\s+(\d+) kB", it.read(), re.M)[1])
 
 
 def some(port, numbers, failed):

@@ -25,7 +25,7 @@ for program in "$top"/crates/*/out/*_tests; do
         last=$(allocations "$program" "$test") || last=0
         # shellcheck disable=SC2016
         seq "$last" | PRELOAD=$room/refuse.so xargs -r -P "$(nproc)" -I{} sh -c \
-            'FAIL_AT={} LD_PRELOAD=$PRELOAD timeout 60 "$0" "$1" >/dev/null 2>&1 </dev/null || echo {}' "$program" "$test" >"$room/wrong"
+            'timeout 60 env FAIL_AT={} LD_PRELOAD="$PRELOAD" "$0" "$1" >/dev/null 2>&1 </dev/null || echo {}' "$program" "$test" >"$room/wrong" || echo 0 >>"$room/wrong"
         if [ "$last" -gt 0 ] && [ ! -s "$room/wrong" ]; then
             echo "ok      $(basename "$program" _tests) $test: each of its $last allocations is refused"
         else

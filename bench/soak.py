@@ -243,7 +243,7 @@ class Soak:
                 visit(self, dice)
             except Wrong as it:
                 self.wrong.append(str(it))
-            except (OSError, EOFError) as it:
+            except Exception as it:  # (else its thread would end unseen)
                 if not self.is_over:
                     self.wrong.append(repr(it))
 
@@ -251,7 +251,7 @@ class Soak:
         while not self.is_over:
             try:
                 self.painting.go_on(dice)
-            except (Wrong, OSError, EOFError) as it:
+            except Exception as it:  # (else its thread would end unseen)
                 if not self.is_over:
                     self.wrong.append(f"the painter: {it!r}")
                 return

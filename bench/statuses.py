@@ -12,7 +12,7 @@ import time
 OPENING = b"RFB 003.008\n\x01\x01"
 GREETING = 12 + 2 + 4 + 24 + 4  # the version, the security types and the result, a ServerInit, and the name `demo` (RFC 6143, 7.1 to 7.3)
 SECONDS = 20
-MOST_MS = 1000  # within which a server ends behind its input
+MOST_MS = 3000  # within which a server ends behind its input
 WAYS = ([], ["--one-thread"])
 # one event that a session can't begin with
 NO_SESSION = "cut 1\n"

@@ -128,7 +128,7 @@ looked_at() { # WANTED COMMAND..
     "${@//PORT/$port}" &
     local server=$!
     servers+=("$server")
-    for _ in $(seq 200); do
+    for _ in $(seq 1200); do
         grep -q "$(printf ':%04X 00000000:0000 0A' "$port")" /proc/net/tcp && break
         sleep 0.05
     done
@@ -136,7 +136,10 @@ looked_at() { # WANTED COMMAND..
         python3 "$here/tools/look.py" "$port" >"$room/seen" || return 1
         grep -qE "$wanted" "$room/seen" || { cat "$room/seen"; return 1; }
     done
-    wait "$server"
+    local status=0
+    wait "$server" || status=$?
+    unset 'servers[-1]' # its number may be another's now
+    return "$status"
 }
 # A program says that everything is as it stands there, and no more than that, and ends well.
 says_ok() { # NAME COMMAND..
@@ -150,26 +153,31 @@ says_ok() { # NAME COMMAND..
 # A command whose input is two colours, and ends after some seconds.
 with_input() { (echo 204060; echo ff8000; sleep "$1"; echo 102030) | "${@:2}"; }
 run() { # NAME PROGRAM HOW..: each example, as it is to be run
-    local name=$1 program=$2
+    local name=$1 program=$2 long=5
     shift 2
+    case $* in *valgrind*) long=20 ;; esac # which is slow
     case $name in
-    play) "$@" "$program" | cmp - "$here/../crates/vncdemo/stdout" ;;
+    play) "$@" "$program" >"$room/played" && cmp "$room/played" "$here/../crates/vncdemo/stdout" ;;
     edges | server_edges | rfb_edges | rfb_drive | screen_calls | server_calls | server_adopt | server_viewers | server_events | server_limits | server_record | server_web) says_ok "$name" "$@" "$program" ;;
     serve) looked_at "640 by 480, . colours, demo" "$@" "$program" PORT 3 ;;
     threads) looked_at "640 by 480, [23] colours, threads" "$@" "$program" PORT 3 ;;
     clock) looked_at "172 by 44, 3 colours, clock" "$@" "$program" PORT 10 ;;
-    sketch) looked_at "640 by 480, [1-4] colours, sketch" "$@" "$program" PORT 5 ;;
-    own_pixels) looked_at "320 by 200, 20[0-9][0-9] colours, own pixels" "$@" "$program" PORT 5 ;;
+    sketch) looked_at "640 by 480, [1-4] colours, sketch" "$@" "$program" PORT "$long" ;;
+    own_pixels) looked_at "320 by 200, 20[0-9][0-9] colours, own pixels" "$@" "$program" PORT "$long" ;;
     inetd) looked_at "320 by 200, [12] colours, inetd" python3 "$here/tools/inetd.py" PORT 3 "$@" "$program" ;;
     admit) says_ok admit python3 "$here/tools/admit.py" "$@" "$program" ;;
-    own_loop) looked_at "320 by 200, 1 colours, own loop" with_input 5 "$@" "$program" PORT ;;
+    own_loop) looked_at "320 by 200, 1 colours, own loop" with_input "$long" "$@" "$program" PORT ;;
     *) "$@" "$program" ;;
     esac
 }
 have python3 || { echo "check.sh: python3 is wanted" >&2; exit 1; }
 valgrind="valgrind -q --error-exitcode=9 --leak-check=full --show-leak-kinds=all --errors-for-leak-kinds=all"
-have valgrind || left+=("valgrind: not installed")
 printf 'int main(void) { return 0; }\n' >"$room/none.c"
+# shellcheck disable=SC2086
+if ! { $CC -o "$room/none" "$room/none.c" && $valgrind "$room/none"; } >/dev/null 2>&1; then
+    valgrind=
+    left+=("valgrind: not installed, or it runs nothing here")
+fi
 sanitize="-fsanitize=address,undefined -fno-sanitize-recover=all"
 # shellcheck disable=SC2086
 if ! { $CC $sanitize -o "$room/none" "$room/none.c" && "$room/none"; } 2>/dev/null; then
@@ -186,7 +194,7 @@ for source in "$here"/examples/*.c "$here"/tools/{rfb_edges,rfb_drive,screen_cal
     [ -x "$room/$name" ] || continue
     try "$name: runs" run "$name" "$room/$name"
     # shellcheck disable=SC2086
-    have valgrind && try "$name: under valgrind" run "$name" "$room/$name" $valgrind
+    [ -n "$valgrind" ] && try "$name: under valgrind" run "$name" "$room/$name" $valgrind
     if [ -n "$sanitize" ]; then
         # shellcheck disable=SC2086
         try "$name: compiles with sanitizers" compile "$source" "$room/$name-san" $sanitize
@@ -265,11 +273,12 @@ fi
 
 # ---- callers in other languages
 try "sketch.py: runs" looked_at "640 by 480, [1-4] colours, sketch" python3 "$here/examples/sketch.py" PORT 5
-if have rustc; then
+printf 'unsafe extern "C" {}\n\nfn main() {}\n' >"$room/none.rs"
+if (cd "$room" && rustc --edition 2021 none.rs) >/dev/null 2>&1; then
     try "clock.rs: compiles without a warning" rustc --edition 2021 -D warnings -L "$room/prefix/lib" -l static=vnc_server -o "$room/clock-rs" "$here/examples/clock.rs"
     try "clock.rs: runs" looked_at "172 by 44, 3 colours, clock" "$room/clock-rs" PORT 5
 else
-    left+=("clock.rs: no rustc")
+    left+=("clock.rs: no rustc, or one before 1.82")
 fi
 
 # ---- the names of keys: X11's numbers, and all of LibVNCServer's names
@@ -295,7 +304,7 @@ if [ -n "${LIBVNCSERVER_SOURCE:-}" ]; then
     numbers_of "$LIBVNCSERVER_SOURCE/rfb/keysym.h" >"$room/of_libvncserver"
     try "rfb/keysym.h has LibVNCServer's names" lacks_none "$room/keysyms" "$room/of_libvncserver"
     try "LibVNCServer's examples" rfb_examples && sed 's/^/        /' "$room/log"
-    have valgrind && try "LibVNCServer's examples under valgrind" rfb_examples valgrind -q --leak-check=full && sed 's/^/        /' "$room/log"
+    [ -n "$valgrind" ] && try "LibVNCServer's examples under valgrind" rfb_examples valgrind -q --leak-check=full && sed 's/^/        /' "$room/log"
 else
     left+=("LibVNCServer's examples: LIBVNCSERVER_SOURCE names no folder of its source")
 fi
@@ -323,7 +332,7 @@ refused() { # PROGRAM FIRST LAST ARGUMENT..
     local program=$1 first=$2 last=$3
     shift 3
     # shellcheck disable=SC2016
-    seq "$first" "$last" | PRELOAD=$room/refuse.so xargs -P "$(nproc)" -I{} sh -c 'FAIL_AT={} LD_PRELOAD=$PRELOAD timeout 60 "$0" "$@" >/dev/null 2>&1 </dev/null; [ $? -lt 124 ] || { echo "refused: {}"; exit 1; }' "$room/$program" "$@"
+    seq "$first" "$last" | PRELOAD=$room/refuse.so xargs -P "$(nproc)" -I{} sh -c 'timeout 60 env FAIL_AT={} LD_PRELOAD="$PRELOAD" "$0" "$@" >/dev/null 2>&1 </dev/null; [ $? -lt 124 ] || { echo "refused: {}"; exit 1; }' "$room/$program" "$@"
 }
 # shellcheck disable=SC2086
 if $CC -Wall -Wextra -Werror -shared -fPIC -o "$room/refuse.so" "$here/tools/refuse.c" -ldl; then

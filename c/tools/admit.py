@@ -20,7 +20,7 @@ def comes(path, program):
     viewer.settimeout(0.2)
     try:
         sys.exit(f"one that waits is sent {viewer.recv(1)}")
-    except TimeoutError:
+    except socket.timeout:  # (TimeoutError is another before Python 3.10)
         viewer.settimeout(20)
         return viewer
 

@@ -449,11 +449,11 @@ static int floods(void)
     for (end = seconds() + 1; seconds() < end; alone++) HOLDS(sees(served, LOOP));
     action = RFB_CLIENT_REFUSE;
     for (end = seconds() + 1; seconds() < end; rounds++) {
-        for (; made < came + 200; made++) close(connects());
+        for (; made < came + 100; made++) close(connects());
         HOLDS(sees(served, LOOP));
     }
-    if (rounds < alone / 4 || came < 80) printf("%d updates, and %d alone; %d connections\n", rounds, alone, came);
-    HOLDS(rounds >= alone / 4 && came >= 80);
+    if (rounds < alone / 10 || came < 80) printf("%d updates, and %d alone; %d connections\n", rounds, alone, came);
+    HOLDS(rounds >= alone / 10 && came >= 80);
     HOLDS(loops_until(&came, made));
     close(served);
     HOLDS(loops_until(&gone, made));
