@@ -1,6 +1,7 @@
 -- What is held of a group, and the steps of a reader.
-use Rattle.std.proofs.Common.{◌≡◌, ℕ, zero, suc, ◌+◌, ◌<◌, ◌≤◌, Bool, true, false, cond, List, [], ◌∷◌, ◌++◌, length, take, drop, slice_index, Option, refl, sym, ap, subst, ◌∙◌, arith, append_assoc, append-nil}
+use Rattle.std.proofs.Common.{◌≡◌, ℕ, zero, suc, ◌+◌, ◌<◌, ◌≤◌, Bool, true, false, cond, not, ◌==◌, ◌&&◌, List, [], ◌∷◌, ◌++◌, length, take, drop, slice_index, Option, refl, sym, ap, subst, ◌∙◌, arith, append_assoc, append-nil}
 use Rattle.std.specs.Prelude.{None, Some, Result}
+use Rattle.std.proofs.lemmas.Bool.{ne_eqb}
 use Rattle.std.proofs.lemmas.List.{length-append, take-append-drop}
 use Rattle.encode_raw.specs.Reading.{◌>>=◌, bytes_at, Shown}
 use Rattle.viewer_picture.specs.Messages.{Display, ColourMap, messages_in}
@@ -50,6 +51,14 @@ pub same_turn : (before : State) (group : List ℕ) (turn : Turn) (after : State
 same_turn before group turn after step is-state is-step here =
     let P : Step → Type 0 = λ done. IsTurn before group (record { state = turn.state; step = done }) in
     subst P (sym is-step) (as_turn before group after turn.state step is-state here)
+
+-- ---- a reader that awaits bytes
+
+pub awaits_text : (text : ℕ) (ends : Bool) → 0 < text → not (text == 0 && ends) ≡ true
+awaits_text text ends some = ap (λ (none : Bool). not (none && ends)) (ne_eqb text 0 (λ none. omega (arith, some, none)))
+
+pub awaits_group : (text : ℕ) (ends : Bool) → text ≡ 0 → ends ≡ false → not (text == 0 && ends) ≡ true
+awaits_group text ends none inner = ap (λ (t : ℕ). not (t == 0 && ends)) none ∙ ap not inner
 
 -- ---- a reader's steps
 

@@ -1,5 +1,5 @@
 -- What steps do, and what they are steps of.
-use Rattle.std.specs.Prelude.{◌≡◌, ℕ, ◌+◌, ◌*◌, ◌≤◌, ◌<◌, ◌==◌, Bool, true, false, ◌&&◌, if◌then◌else◌, List, [], ◌++◌, length, slice_index, None, Some, Result, MatchResult}
+use Rattle.std.specs.Prelude.{◌≡◌, ℕ, ◌+◌, ◌*◌, ◌≤◌, ◌<◌, ◌==◌, Bool, true, false, ◌&&◌, not, if◌then◌else◌, List, [], ◌++◌, length, slice_index, None, Some, Result, MatchResult}
 use Rattle.pixel_translate.specs.Pixel.{server_format}
 use Rattle.encode_raw.specs.Reading.{Shown, Patch, patched, shown_after_copy}
 use Rattle.viewer_picture.specs.Messages.{Display, ColourMap, nothing_shown}
@@ -115,6 +115,10 @@ IsNoMessage before piece = (shown : Shown) (colours : ColourMap) → HasNoReadin
 abbrev pub is_update_end : Stage → Bool
 is_update_end stage.UpdateEnd = true
 is_update_end _ = false
+
+-- nothing is done before further bytes come
+abbrev pub awaits_bytes : View → Bool
+awaits_bytes v = not (v.state.text == 0 && is_update_end v.state.stage)
 
 -- how much is left to do of a piece
 abbrev pub work_left : View → (piece : List ℕ) → ℕ

@@ -6,7 +6,7 @@ ghost use Rattle.server_reader.specs.Faults.{IsFaultOf, IsFaultIn};
 ghost use Rattle.server_reader.specs.Groups.{needed};
 ghost use Rattle.server_reader.specs.Heard.{HearsAt};
 ghost use Rattle.server_reader.specs.OnPicture.{StageIsOn, StepIsOn, ends_update, TurnIsOn, size_after};
-ghost use Rattle.server_reader.specs.Steps.{IsRead, opened, IsStep, IsKept, IsNoMessage, work_left, is_update_end, is_between};
+ghost use Rattle.server_reader.specs.Steps.{IsRead, opened, IsStep, IsKept, IsNoMessage, work_left, is_update_end, awaits_bytes, is_between};
 
 use crate::fault::ReadFault;
 use crate::groups::missing;
@@ -107,8 +107,9 @@ impl Reader {
         ensures on { IfSome result (λ next. StepIsOn self.new.state.size next.step) }
         ensures ended { IfSome result (λ next. ends_update next.step ≡ false) }
         ensures kept { IfNone result (IsKept self.old piece.now self.new) }
+        ensures held { IfNone result (self.new ≡ record self.old { held = self.old.held ++ piece.now }) }
+        ensures inside { IfNone result (awaits_bytes self.new ≡ true) }
         ensures sized { IfSome result (λ next. self.new.state.size ≡ size_after next.step self.old.state.size) }
-        ensures same { IfNone result (self.new.state.size ≡ self.old.state.size) }
         ensures less { IfSome result (λ next. work_left self.new next.rest.now < work_left self.old piece.now) }
     {
         if piece.is_empty() {
@@ -191,8 +192,9 @@ impl Reader {
         ensures on { IfOk result (λ found. IfSome found (λ next. StepIsOn self.new.state.size next.step)) }
         ensures ended { IfOk result (λ found. IfSome found (λ next. ends_update next.step ≡ true → is_between self.new ≡ true)) }
         ensures kept { IfOk result (λ found. IfNone found (IsKept self.old piece.now self.new)) }
+        ensures held { IfOk result (λ found. IfNone found (self.new ≡ record self.old { held = self.old.held ++ piece.now })) }
+        ensures inside { IfOk result (λ found. IfNone found (awaits_bytes self.new ≡ true)) }
         ensures sized { IfOk result (λ found. IfSome found (λ next. self.new.state.size ≡ size_after next.step self.old.state.size)) }
-        ensures same { IfOk result (λ found. IfNone found (self.new.state.size ≡ self.old.state.size)) }
         ensures fault { IfErr result (λ _. IsNoMessage self.old piece.now) }
         ensures why { IfErr result (λ fault. IsFaultIn self.old piece.now fault) }
         ensures less { IfOk result (λ found. IfSome found (λ next. work_left self.new next.rest.now < work_left self.old piece.now)) }
@@ -221,8 +223,9 @@ impl Reader {
         ensures on { IfOk result (λ found. IfSome found (λ next. StepIsOn self.new.state.size next.step)) }
         ensures ended { IfOk result (λ found. IfSome found (λ next. ends_update next.step ≡ true → is_between self.new ≡ true)) }
         ensures kept { IfOk result (λ found. IfNone found (IsKept self.old piece.now self.new)) }
+        ensures held { IfOk result (λ found. IfNone found (self.new ≡ record self.old { held = self.old.held ++ piece.now })) }
+        ensures inside { IfOk result (λ found. IfNone found (awaits_bytes self.new ≡ true)) }
         ensures sized { IfOk result (λ found. IfSome found (λ next. self.new.state.size ≡ size_after next.step self.old.state.size)) }
-        ensures same { IfOk result (λ found. IfNone found (self.new.state.size ≡ self.old.state.size)) }
         ensures fault { IfErr result (λ _. IsNoMessage self.old piece.now) }
         ensures why { IfErr result (λ fault. IsFaultIn self.old piece.now fault) }
         ensures less { IfOk result (λ found. IfSome found (λ next. work_left self.new next.rest.now < work_left self.old piece.now)) }
@@ -250,8 +253,9 @@ impl Reader {
         ensures on { IfOk result (λ found. IfSome found (λ next. StepIsOn self.new.state.size next.step)) }
         ensures ended { IfOk result (λ found. IfSome found (λ next. ends_update next.step ≡ true → is_between self.new ≡ true)) }
         ensures kept { IfOk result (λ found. IfNone found (IsKept self.old piece.now self.new)) }
+        ensures held { IfOk result (λ found. IfNone found (self.new ≡ record self.old { held = self.old.held ++ piece.now })) }
+        ensures inside { IfOk result (λ found. IfNone found (awaits_bytes self.new ≡ true)) }
         ensures sized { IfOk result (λ found. IfSome found (λ next. self.new.state.size ≡ size_after next.step self.old.state.size)) }
-        ensures same { IfOk result (λ found. IfNone found (self.new.state.size ≡ self.old.state.size)) }
         ensures fault { IfErr result (λ _. IsNoMessage self.old piece.now) }
         ensures why { IfErr result (λ fault. IsFaultIn self.old piece.now fault) }
         ensures stopped { IfErr result (λ fault. self.new.state.stage ≡ Stage.Faulted fault) }

@@ -35,10 +35,19 @@ const REQUEST: Token = Token(usize::MAX - 10);
 const WATCHED: Token = Token(usize::MAX - 11);
 
 /// Waits until sockets are ready. Each is reported once when it becomes so, and not again before it was found unready.
-#[derive(Drop)]
 pub struct Poller {
     poll: Poll,
     events: Events,
+}
+
+// Written out, so that who holds one proves one call here, and not the drop of each field.
+impl Drop for Poller {
+    fn drop(self) {
+        let Poller {
+            poll: _poll,
+            events: _events,
+        } = self;
+    }
 }
 
 /// What an event says. It may be out of date.

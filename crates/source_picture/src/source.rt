@@ -1,12 +1,12 @@
 //! A source's picture as it comes.
 
-ghost use Rattle.std.specs.Prelude.{◌≡◌, ◌<◌, true, false, [], List, None, IfOk, IfErr, IfSome, OnOk, option_map};
+ghost use Rattle.std.specs.Prelude.{◌≡◌, ◌<◌, true, false, [], List, None, IfOk, IfErr, IfSome, IfNone, OnOk, option_map};
 ghost use Rattle.screen.specs.declared.Config.{Config};
 ghost use Rattle.screen.specs.declared.Event.{Event};
 ghost use Rattle.screen.specs.Alone.{config_refusal, is_size};
 ghost use Rattle.screen.specs.State.{state};
 ghost use Rattle.connections.specs.Drawing.{Draws};
-ghost use Rattle.server_reader.specs.Steps.{work_left};
+ghost use Rattle.server_reader.specs.Steps.{work_left, awaits_bytes};
 ghost use Rattle.source_picture.specs.Mirroring.{SourceView, begun, is_owing, cost_of, IsShare, ReadsNext, MirrorsNext, IsMirrored, GoesOnMirroring, HasEnded};
 ghost use Rattle.source_picture.specs.Bands.{with_band};
 
@@ -143,6 +143,7 @@ impl SourcePicture {
         ensures read { IfOk result (λ drawn. ReadsNext self.old piece.now self.new drawn) }
         ensures ended { IfErr result (λ end. HasEnded end self.old.reader piece.now self.new.reader) }
         ensures less { IfOk result (λ drawn. IfSome drawn (λ d. work_left self.new.reader d.rest.now < work_left self.old.reader piece.now)) }
+        ensures more { IfOk result (λ drawn. IfNone drawn (awaits_bytes self.new.reader ≡ true)) }
         ensures draws { Draws canvas.old canvas.new }
     {
         let next = match self.reader.next(piece) {
@@ -166,6 +167,7 @@ impl SourcePicture {
             IfOk result (λ rest. IsMirrored self.old piece.now self.new rest.now
             (with_band self.old.waiting canvas.old.screen.picture) (with_band self.new.waiting canvas.new.screen.picture)) }
         ensures read { IfOk result (λ rest. IsShare self.old piece.now self.new rest.now) }
+        ensures whole { IfOk result (λ rest. rest.now ≡ [] → awaits_bytes self.new.reader ≡ true) }
         ensures ended { IfErr result (λ end. HasEnded end self.old.reader piece.now self.new.reader) }
         ensures draws { Draws canvas.old canvas.new }
     {
@@ -190,6 +192,7 @@ impl SourcePicture {
         ensures mirrored { (config : Config) (list : List Event) → config_refusal config ≡ None → canvas.old.screen ≡ state config list →
             IfOk result (λ rest. GoesOnMirroring config list self.old piece.now self.new rest.now canvas.old.screen canvas.new.screen) }
         ensures read { IfOk result (λ rest. IsShare self.old piece.now self.new rest.now) }
+        ensures whole { IfOk result (λ rest. rest.now ≡ [] → awaits_bytes self.new.reader ≡ true) }
         ensures ended { IfErr result (λ end. HasEnded end self.old.reader piece.now self.new.reader) }
         ensures draws { Draws canvas.old canvas.new }
     {

@@ -1,7 +1,7 @@
-use Rattle.std.proofs.Common.{◌≡◌, ℕ, false, List, [], length, refl, ap, subst, ◌∙◌, arith, ◌++◌}
+use Rattle.std.proofs.Common.{◌≡◌, ℕ, true, false, List, [], length, refl, sym, ap, subst, ◌∙◌, arith, ◌++◌}
 use Rattle.server_reader.specs.declared.step.Next.{Next}
-use Rattle.server_reader.specs.Steps.{View, IsKept, is_update_end}
-use Rattle.server_reader.proofs.StepLemmas.{hears_group, kept, some_missing, less_left, turned, refused, in_parts}
+use Rattle.server_reader.specs.Steps.{View, IsKept, is_update_end, awaits_bytes}
+use Rattle.server_reader.proofs.StepLemmas.{awaits_group, hears_group, kept, some_missing, less_left, turned, refused, in_parts}
 use Rattle.server_reader.proofs.reader.Reader.read_head.Goals as goal
 
 pub returns-then-piece-missing-clause-kept : goal.returns-then-piece-missing-clause-kept
@@ -14,6 +14,23 @@ returns-then-piece-missing-clause-kept c =
     let with_held : List ℕ → View = λ h. record { state = state; held = h } in
     let P : View → Type 0 = λ v. IsKept v piece after in
     subst P c.self.view_is (kept before after piece (ap with_held all))
+
+pub returns-then-piece-missing-clause-held : goal.returns-then-piece-missing-clause-held
+returns-then-piece-missing-clause-held c =
+    let piece = c.args.piece.now in
+    let state = c.self.inside.state in
+    let after : View = record { state = state; held = c.try_extend_from_slice.new.self.items } in
+    let all = rw c.unwrap.ensures at c.try_extend_from_slice.ensures.ok in
+    let with_held : List ℕ → View = λ h. record { state = state; held = h } in
+    let P : View → Type 0 = λ v. after ≡ record v { held = v.held ++ piece } in
+    subst P c.self.view_is (ap with_held all)
+
+pub returns-then-piece-missing-clause-inside : goal.returns-then-piece-missing-clause-inside
+returns-then-piece-missing-clause-inside c =
+    let state = c.self.inside.state in
+    let after : View = record { state = state; held = c.try_extend_from_slice.new.self.items } in
+    let P : View → Type 0 = λ v. awaits_bytes (record { state = v.state; held = after.held }) ≡ true in
+    subst P (sym c.self.view_is) (awaits_group c.args.self.now.state.text (is_update_end c.args.self.now.state.stage) c.requires.text c.requires.inner)
 
 pub returns-in-Err-clause-fault : goal.returns-in-Err-clause-fault
 returns-in-Err-clause-fault c =

@@ -1,4 +1,5 @@
-use Rattle.std.proofs.Common.{List, ℕ, [], refl, subst}
+use Rattle.std.proofs.Common.{List, ℕ, [], refl, ap, subst}
+use Rattle.server_reader.specs.Steps.{View}
 use Rattle.source_picture.specs.Mirroring.{SourceView, IsReadAs, IsNext, IsMirrored, IsMirroredNext}
 use Rattle.source_picture.proofs.ReadLemmas.{read_kept, mirrored_kept, mirrored_one}
 use Rattle.source_picture.specs.Bands.{with_band}
@@ -12,7 +13,7 @@ returns-in-Ok-None-clause-mirrored c config list fine was =
     let after : SourceView = record { reader = c.next.new.self; asking = c.self.inside.asking; text = c.self.inside.painter.text; waiting = c.self.inside.painter.band } in
     let given = rw c.in-Ok-None.field-0-is at c.in-Ok-None.ensures in
     let P : SourceView → Type 0 = λ v. IsMirrored v piece after [] (with_band v.waiting picture) (with_band after.waiting picture) in
-    subst P c.self.view_is (mirrored_kept before after piece (with_band before.waiting picture) (read_kept before after piece given.kept refl refl) given.same)
+    subst P c.self.view_is (mirrored_kept before after piece (with_band before.waiting picture) (read_kept before after piece given.kept refl refl) (ap (λ (v : View). v.state.size) given.held))
 
 pub returns-in-Ok-None-clause-read : goal.returns-in-Ok-None-clause-read
 returns-in-Ok-None-clause-read c =
