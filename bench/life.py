@@ -1,11 +1,11 @@
 #!/usr/bin/env python3
-"""life.py PROGRAM [--connections 200000] [--at-once 8] [--first-at-once 24] [--threads] [--arenas N]: a long life of `vncdemo serve --forever`, by
-one thread, or with --threads by two a viewer. So many viewers come and go, some at once, and the first thousand more at once: what a server takes
-is what the most viewers took that were there together. Each opens, asks for the whole screen, takes it, holds a key down and leaves, every eighth
-by a reset and every ninth in its opening. It prints what memory the server takes after a thousand of them, after each tenth of all, and at the
-end. The status is 1 where the server ended, a picture had another length, or it took a tenth of a MB more at the end than after the first
-thousand. With --threads the C library is told to keep all memory in N arenas, one unless another number is given (MALLOC_ARENA_MAX); with
---arenas 0 it has its own way, up to eight a processor."""
+"""life.py PROGRAM [--connections 200000] [--at-once 8] [--first-at-once 24] [--threads] [--arenas N]: a long life of `vncdemo serve
+--forever`, by one thread, or with --threads by two a viewer. So many viewers come and go, some at once, and the first thousand more at once,
+as a server takes what the most viewers took that were there together. Each opens, asks for the whole screen, takes it, holds a key down and
+leaves, every eighth by a reset and every ninth in its opening. It prints what memory the server takes after a thousand of them, after each
+tenth of all, and at the end. The status is 1 where the server ended, a picture had another length, or it took a tenth of a MB more at the end
+than after the first thousand. With --threads the C library is told to keep all memory in N arenas (MALLOC_ARENA_MAX), one unless another number
+is given; with --arenas 0 it has its own way, up to eight a processor."""
 import argparse
 import os
 import re
