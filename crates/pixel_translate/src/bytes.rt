@@ -92,20 +92,6 @@ fn write_16_big<F: Fn(u32) -> u32>(places: &mut [u8], values: &[u32], pixel_of: 
     }
 }
 
-/// Writes the pixel of each value in a format of 16 bits. Looks at the order of bytes once for all of them.
-fn write_16<F: Fn(u32) -> u32>(places: &mut [u8], values: &[u32], format: &PixelFormat, pixel_of: F)
-    requires callable { F.IsAlwaysCallable pixel_of }
-    requires bits { bits_of format.now ≡ BitsPerPixel.Sixteen }
-    requires room { length places.old ≡ 2 * length values.now }
-    ensures { (number : ℕ → ℕ) → Gives (F.post pixel_of) number → places.new ≡ flat_map (bytes_by format.now number) values.now }
-{
-    if format.big_endian {
-        write_16_big(places, values, pixel_of);
-    } else {
-        write_16_little(places, values, pixel_of);
-    }
-}
-
 /// Writes the pixel of each value in 32 bits, the lowest byte first.
 fn write_32_little<F: Fn(u32) -> u32>(places: &mut [u8], values: &[u32], pixel_of: F)
     requires callable { F.IsAlwaysCallable pixel_of }
@@ -130,21 +116,8 @@ fn write_32_big<F: Fn(u32) -> u32>(places: &mut [u8], values: &[u32], pixel_of: 
     }
 }
 
-/// Writes the pixel of each value in a format of 32 bits. Looks at the order of bytes once for all of them.
-fn write_32<F: Fn(u32) -> u32>(places: &mut [u8], values: &[u32], format: &PixelFormat, pixel_of: F)
-    requires callable { F.IsAlwaysCallable pixel_of }
-    requires bits { bits_of format.now ≡ BitsPerPixel.ThirtyTwo }
-    requires room { length places.old ≡ 4 * length values.now }
-    ensures { (number : ℕ → ℕ) → Gives (F.post pixel_of) number → places.new ≡ flat_map (bytes_by format.now number) values.now }
-{
-    if format.big_endian {
-        write_32_big(places, values, pixel_of);
-    } else {
-        write_32_little(places, values, pixel_of);
-    }
-}
-
-/// Writes the pixel that `pixel_of` gives for each value of `values` into `places`, which have just their size.
+/// Writes the pixel that `pixel_of` gives for each value of `values` into `places`, which have just their size. Looks at the order of
+/// bytes once for all of them.
 pub fn write_pixels<F: Fn(u32) -> u32>(
     places: &mut [u8],
     values: &[u32],
@@ -155,9 +128,11 @@ pub fn write_pixels<F: Fn(u32) -> u32>(
     requires room { length places.old ≡ bytes_per_pixel format.now * length values.now }
     ensures { (number : ℕ → ℕ) → Gives (F.post pixel_of) number → places.new ≡ flat_map (bytes_by format.now number) values.now }
 {
-    match format.bits() {
-        BitsPerPixel::Eight => write_8(places, values, format, pixel_of),
-        BitsPerPixel::Sixteen => write_16(places, values, format, pixel_of),
-        BitsPerPixel::ThirtyTwo => write_32(places, values, format, pixel_of),
+    match (format.bits(), format.big_endian) {
+        (BitsPerPixel::Eight, _) => write_8(places, values, format, pixel_of),
+        (BitsPerPixel::Sixteen, false) => write_16_little(places, values, pixel_of),
+        (BitsPerPixel::Sixteen, true) => write_16_big(places, values, pixel_of),
+        (BitsPerPixel::ThirtyTwo, false) => write_32_little(places, values, pixel_of),
+        (BitsPerPixel::ThirtyTwo, true) => write_32_big(places, values, pixel_of),
     }
 }

@@ -1,6 +1,6 @@
 use Rattle.std.proofs.Common.{◌≡◌, ◌≤◌, ◌-◌, ◌++◌, length, take, flat_map}
 use Rattle.pixel_translate.specs.Pixel.{colour_bytes}
-use Rattle.encode_raw.proofs.put_pieces.Given as goal
+use Rattle.encode_raw.proofs.put_raw_pixels.Given as goal
 
 -- the colours passed are written
 abbrev pub invariant-loop-from : goal.invariant-loop-from
