@@ -279,8 +279,8 @@ where
     )
 }
 
-/// Serves as `serve_viewers` does, where so many inputs may wait for the application, at least 1 and at most 65,536. One takes 112 bytes, which are taken
-/// for all at the start.
+/// Serves as `serve_viewers` does, where so many inputs may wait for the application, at least 1 and at most 65,536. The room for all of
+/// them is taken at the start: 4.1 MB for 65,536.
 pub fn serve_viewers_with_queue<L, A, R>(
     rt: &R,
     alloc: Global,

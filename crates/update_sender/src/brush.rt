@@ -76,7 +76,7 @@ impl<L: Ledger> Brush<L> {
         }
     }
 
-    /// Makes a drawing call in one hold, which is kept once it is accepted, and after which waiting senders are woken.
+    /// Makes a drawing call in one hold, which is kept once it is accepted, and after which the senders that it may give something are woken.
     fn draw<R: Wait>(
         &mut self,
         shared: &Shared<L>,
@@ -90,11 +90,12 @@ impl<L: Ledger> Brush<L> {
         let Ok(event) = event_for(&mut self.drawn, drawing) else {
             return Err(shared.screen.lock(rt).refusal_of(drawing));
         };
-        shared.screen.lock(rt).draw(&mut self.share, drawing)?;
+        let mut locked = shared.screen.lock(rt);
+        locked.draw(&mut self.share, drawing)?;
+        let awaiting = locked.take_awaiting(drawing);
+        drop(locked);
         self.drawn.push(event);
-        if drawing.may_be_sent() {
-            shared.wake.notify_all();
-        }
+        shared.senders.wake(awaiting);
         Ok(())
     }
 

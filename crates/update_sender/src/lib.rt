@@ -1,4 +1,4 @@
-//! A screen that threads share: one lock round the screen, one condition on which a viewer's sender waits, the
+//! A screen that threads share: one lock round the screen, conditions on which viewers' senders wait, the
 //! application's brush, and each viewer's two ends. What is done in one hold of the lock is one event of the screen, or
 //! none.
 //!
@@ -24,6 +24,7 @@ mod opening;
 mod reader;
 mod reasons;
 mod sender;
+mod senders;
 mod shared;
 mod writing;
 

@@ -17,10 +17,12 @@ ghost use Rattle.update_sender.specs.Numbers.{is_next};
 ghost use Rattle.update_sender.specs.Locked.{Draws, Joins, NeedsNoWait, Parts, Stands, StepsAlone, Takes, TellsStep, HasBytes, IsTurnOf, ending, is_open_now};
 
 use crate::next_step::{NextStep, Turn};
+use crate::senders::{ALL_GROUPS, group_of};
 use listed::Listed;
 use screen::{Answer, Drawing, Event, Screen, ScreenError, Update, kept_is_enough};
 use std::alloc::AllocError;
 use std::marker::Model;
+use std::mem;
 use std::sync::ledger::{Book, Ledger, Share};
 
 /// What lies behind the lock.
@@ -32,6 +34,8 @@ pub struct LockedScreen<L: Ledger> {
     stopped: bool,
     // the drawing calls
     drawings: Book<L>,
+    // the groups of the viewers whose request is open and waits for a drawing call
+    awaiting: u64,
 }
 
 impl<L: Ledger> Model for LockedScreen<L> {
@@ -110,6 +114,7 @@ impl<L: Ledger> LockedScreen<L> {
             newest: None,
             stopped: false,
             drawings,
+            awaiting: 0,
         }
     }
 
@@ -232,6 +237,27 @@ impl<L: Ledger> LockedScreen<L> {
         self.screen.draw(drawing)?;
         self.drawings.add(share, 1);
         Ok(())
+    }
+
+    /// Notes that a drawing call may give a viewer something to be sent, where a request of the viewer is open.
+    pub fn await_drawing(&mut self, number: u64)
+        ensures { self.new ≡ self.old }
+    {
+        if matches!(self.screen.is_asking(number), Ok(true)) {
+            self.awaiting |= group_of(number);
+        }
+    }
+
+    /// Returns the groups of senders that a drawing call may have given something: none where no viewer is told of it, all for a bell and
+    /// a text, and else those that were noted. Each is noted anew when it waits again.
+    pub fn take_awaiting(&mut self, drawing: &Drawing<'_>) -> u64
+        ensures { self.new ≡ self.old }
+    {
+        match drawing {
+            Drawing::Write { .. } => 0,
+            Drawing::Bell | Drawing::CutText(_) => ALL_GROUPS,
+            _ => mem::replace(&mut self.awaiting, 0),
+        }
     }
 
     /// Returns why a drawing call is not made for want of memory: the refusal that is due, and else that want.

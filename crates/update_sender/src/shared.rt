@@ -1,5 +1,5 @@
 //! The lock, and the viewers' calls. Each holds the lock for one event; what follows from it, as an update's encoding, is done
-//! once the lock is free. A hold after which a waiting sender may go on wakes the senders.
+//! once the lock is free. A hold after which a waiting sender may go on wakes the senders of its group.
 
 ghost use Rattle.std.specs.Prelude.{◌≡◌, ◌≢◌, ◌<◌, ◌⊎◌, [], None, OnOk, OnErr, IfOk, IfErr, MatchOption, IsOkUnless, length};
 ghost use Rattle.screen.specs.declared.ScreenError.TheVariants as refusals;
@@ -13,12 +13,13 @@ use crate::brush::Brush;
 use crate::line::{Line, Listener, Speaker};
 use crate::locked_screen::{HearOutcome, LockedScreen, Parting};
 use crate::next_step::{NextStep, Turn};
+use crate::senders::{ALL_GROUPS, Senders, group_of};
 use kept_list::KeptList;
 use screen::{Answer, Config, Screen, ScreenError, Update};
 use std::alloc::{AllocError, Global};
 use std::marker::Model;
 use std::sync::ledger::{Blank, Ledger};
-use std::sync::{Condvar, Mutex, Wait};
+use std::sync::{Mutex, Wait};
 
 /// A screen that threads share. Contracts see the configuration that it was made with.
 #[derive(Drop)]
@@ -26,8 +27,8 @@ pub struct Shared<L: Ledger> {
     pub(crate) alloc: Global,
     pub(crate) config: Config,
     pub(crate) screen: Mutex<LockedScreen<L>>,
-    // a waiting sender may go on
-    pub(crate) wake: Condvar,
+    // those that wait
+    pub(crate) senders: Senders,
 }
 
 impl<L: Ledger> Model for Shared<L> {
@@ -62,13 +63,14 @@ impl<L: Ledger> Shared<L> {
         let config = copy?;
         let (book, share) = blank.open::<L>();
         let brush = Brush::new(alloc, config.history, share);
-        let shared = Shared::of(alloc, config, LockedScreen::new(screen, book));
+        let senders = Senders::new(alloc)?;
+        let shared = Shared::of(alloc, config, LockedScreen::new(screen, book), senders);
         Ok((shared, brush))
     }
 
     /// Puts a screen of a configuration behind a lock, on which nothing has happened yet. No screen comes there otherwise, and no event
     /// changes a screen's configuration.
-    fn of(alloc: Global, config: Config, screen: LockedScreen<L>) -> Shared<L>
+    fn of(alloc: Global, config: Config, screen: LockedScreen<L>, senders: Senders) -> Shared<L>
         requires config { config_refusal config ≡ None }
         requires screen { screen.screen ≡ state config [] }
         ensures { result ≡ config }
@@ -77,7 +79,7 @@ impl<L: Ledger> Shared<L> {
             alloc,
             config,
             screen: Mutex::new(screen),
-            wake: Condvar::new(),
+            senders,
         }
     }
 
@@ -96,7 +98,7 @@ impl<L: Ledger> Shared<L> {
         ensures refused { IfErr result (λ e. (e ≡ refusals.NoViewer) ⊎ (e ≡ refusals.OutOfMemory)) }
     {
         self.screen.lock(rt).close(number)?;
-        self.wake.notify_all();
+        self.senders.wake(group_of(number));
         Ok(())
     }
 
@@ -105,14 +107,14 @@ impl<L: Ledger> Shared<L> {
         ensures { result.viewer ≡ number }
     {
         let parting = self.screen.lock(rt).part(number);
-        self.wake.notify_all();
+        self.senders.wake(group_of(number));
         parting
     }
 
     /// Ends the sending: every later `cut_wait` gives None.
     pub fn stop<R: Wait>(&self, rt: &R) {
         self.screen.lock(rt).stop();
-        self.wake.notify_all();
+        self.senders.wake(ALL_GROUPS);
     }
 
     /// Hears a piece of a viewer's bytes. Refused as `NoViewer` where the viewer is gone.
@@ -146,14 +148,15 @@ impl<L: Ledger> Shared<L> {
         }
         let heard = self.hear_in_hold(rt, listener.viewer, &listener.heard, piece)?;
         if heard.has_step {
-            self.wake.notify_all();
+            self.senders.wake(group_of(listener.viewer));
         }
         listener.heard.append(piece);
         listener.pieces = listener.pieces.saturating_add(1);
         Ok(heard)
     }
 
-    /// Hears it in one hold, once there is room for the piece among those that were heard: what the screen has heard is kept.
+    /// Hears it in one hold, once there is room for the piece among those that were heard: what the screen has heard is kept. A request
+    /// that can't be answered yet waits for a drawing call.
     fn hear_in_hold<R: Wait>(
         &self,
         rt: &R,
@@ -164,7 +167,11 @@ impl<L: Ledger> Shared<L> {
         requires room { HasRoom (length piece.now) _kept.now }
         ensures refused { IfErr result (λ e. (e ≡ refusals.NoViewer) ⊎ (e ≡ refusals.OutOfMemory)) }
     {
-        let heard = self.screen.lock(rt).hear_further(viewer, piece)?;
+        let mut locked = self.screen.lock(rt);
+        let heard = locked.hear_further(viewer, piece)?;
+        if !heard.has_step {
+            locked.await_drawing(viewer);
+        }
         Ok(heard)
     }
 
@@ -177,7 +184,8 @@ impl<L: Ledger> Shared<L> {
             if let Some(turn) = locked.take_turn(viewer)? {
                 return Ok(turn);
             }
-            locked = self.wake.wait(rt, locked);
+            locked.await_drawing(viewer);
+            locked = self.senders.of(viewer).wait(rt, locked);
         }
         unreachable!()
     }
