@@ -15,7 +15,7 @@ use crate::shared::Shared;
 use kept_list::KeptList;
 use listed::Listed;
 use region::{Rect, Region};
-use screen::{Drawing, Event, History, ScreenError, list_for};
+use screen::{Drawing, Event, History, ScreenError, event_in, list_for};
 use std::alloc::{AllocError, Global};
 use std::marker::Model;
 use std::sync::Wait;
@@ -40,18 +40,7 @@ impl<L: Ledger> Model for Brush<L> {
     ghost invariant = { λ a. (a.share.parts ≡ L.parts) × (0 < a.share.parts) × Counts a.share.amount a.drawn.items };
 }
 
-/// Returns the event that a call is, where the calls are kept; else any, which is dropped.
-fn event_in(drawn: &KeptList<Event>, drawing: &Drawing<'_>) -> Result<Event, AllocError>
-    ensures { is_some drawn.now.items ≡ true → IfOk result (λ event. event ≡ event_of drawing.now) }
-{
-    if drawn.is_kept() {
-        drawing.to_event(drawn.allocator())
-    } else {
-        Ok(Event::Bell)
-    }
-}
-
-/// Returns the same, and makes room for it.
+/// Returns the event that a call is, where the calls are kept, and makes room for it; else any, which is dropped.
 fn event_for(drawn: &mut KeptList<Event>, drawing: &Drawing<'_>) -> Result<Event, AllocError>
     ensures event { is_some drawn.old.items ≡ true → IfOk result (λ event. event ≡ event_of drawing.now) }
     ensures room { OnOk result (HasRoom 1 drawn.new) }
