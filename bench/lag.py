@@ -1,5 +1,5 @@
 #!/usr/bin/env python3
-"""lag.py PROGRAM [--viewers 200] [--places 60000]: viewers that had the whole picture of 640 by 480 don't ask while so many places, each by itself,
+"""lag.py PROGRAM [--viewers 200] [--places 60000] [--threads]: viewers that had the whole picture of 640 by 480 don't ask while so many places, each by itself,
 are painted; then all ask at once. Beside LibVNCServer's loop: seconds of the server's processor for the painting, and from then on, and the
 longest that another viewer waits for an update of one place meanwhile."""
 import argparse
@@ -68,8 +68,12 @@ def main():
     words.add_argument("program")
     words.add_argument("--viewers", type=int, default=200)
     words.add_argument("--places", type=int, default=60000)
+    words.add_argument("--threads", action="store_true", help="serve with threads, too: at most 62 viewers")
     asked = words.parse_args()
-    for name, command in (("LibVNCServer, loop", lvs("loop")), ("serve --one-thread", ours(asked.program, "--one-thread"))):
+    servers = [("LibVNCServer, loop", lvs("loop")), ("serve --one-thread", ours(asked.program, "--one-thread"))]
+    if asked.threads:
+        servers.append(("serve", ours(asked.program)))
+    for name, command in servers:
         painting, answering, wait = run(command, asked.viewers, min(asked.places, VGA[0] * VGA[1] // 4))
         print(f"{name}: painting {painting:.2f} s, then {answering:.2f} s; another viewer waits {wait:.2f} s at most", flush=True)
 

@@ -1,5 +1,5 @@
 -- The event that a drawing call is, and when it is refused.
-use Rattle.std.specs.Prelude.{ℕ, Bool, true, false, [], ◌∷◌, Option, None}
+use Rattle.std.specs.Prelude.{ℕ, [], ◌∷◌, Option, None}
 use Rattle.scene.specs.Alone.{pixels_refusal, text_refusal, size_refusal}
 use Rattle.scene.specs.declared.ScreenError.{ScreenError}
 use Rattle.scene.specs.declared.Event.{Event}
@@ -19,11 +19,6 @@ event_of (DoCopyRegion region dx dy) = events.DoCopy region.now.list dx dy
 event_of Bell = events.Bell
 event_of (CutText text) = events.CutText text.now
 event_of (NewFramebuffer width height) = events.Resize width height
-
--- whether a viewer that waits may have something to be sent after it: none is told of colours that are only written
-abbrev pub may_be_sent : Drawing → Bool
-may_be_sent (Write rect colours) = false
-may_be_sent _ = true
 
 -- why it is refused on a screen of so many columns and rows, if it is
 abbrev pub call_refusal : ℕ → ℕ → Drawing → Option ScreenError

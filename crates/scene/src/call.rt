@@ -1,7 +1,7 @@
 //! The drawing calls of an application, as one value each.
 
 ghost use Rattle.std.specs.Prelude.{◌≡◌, ◌∷◌, [], IfOk};
-ghost use Rattle.scene.specs.Calls.{call_refusal, event_of, may_be_sent};
+ghost use Rattle.scene.specs.Calls.{call_refusal, event_of};
 
 use crate::limits::{pixels_refusal, size_refusal, text_refusal};
 use crate::{Event, ScreenError};
@@ -65,14 +65,6 @@ pub enum Drawing<'a> {
 }
 
 impl<'a> Drawing<'a> {
-    /// Returns whether a viewer that waits may have something to be sent after the call: no viewer is told of colours that are only
-    /// written.
-    pub fn may_be_sent(&self) -> bool
-        ensures { result ≡ may_be_sent self.now }
-    {
-        !matches!(self, Drawing::Write { .. })
-    }
-
     /// Returns why the call is refused on a screen of `width` columns and `height` rows, if it is.
     pub fn refusal(&self, width: u32, height: u32) -> Option<ScreenError>
         ensures { result ≡ call_refusal width height self.now }

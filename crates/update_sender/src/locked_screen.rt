@@ -34,7 +34,7 @@ pub struct LockedScreen<L: Ledger> {
     stopped: bool,
     // the drawing calls
     drawings: Book<L>,
-    // the groups of the viewers whose request is open and waits for a drawing call
+    // the groups of viewers whose open request a drawing call may answer, noted since a call last took them
     awaiting: u64,
 }
 
@@ -239,7 +239,7 @@ impl<L: Ledger> LockedScreen<L> {
         Ok(())
     }
 
-    /// Notes that a drawing call may give a viewer something to be sent, where a request of the viewer is open.
+    /// Notes the group of a viewer, where a request of the viewer is open.
     pub fn await_drawing(&mut self, number: u64)
         ensures { self.new ≡ self.old }
     {
@@ -249,14 +249,21 @@ impl<L: Ledger> LockedScreen<L> {
     }
 
     /// Returns the groups of senders that a drawing call may have given something: none where no viewer is told of it, all for a bell and
-    /// a text, and else those that were noted. Each is noted anew when it waits again.
+    /// a text, and else those that were noted since a call last took them.
     pub fn take_awaiting(&mut self, drawing: &Drawing<'_>) -> u64
         ensures { self.new ≡ self.old }
     {
         match drawing {
             Drawing::Write { .. } => 0,
             Drawing::Bell | Drawing::CutText(_) => ALL_GROUPS,
-            _ => mem::replace(&mut self.awaiting, 0),
+            Drawing::Paint { .. }
+            | Drawing::MarkRect(_)
+            | Drawing::MarkRegion(_)
+            | Drawing::ScheduleCopyRect { .. }
+            | Drawing::ScheduleCopyRegion { .. }
+            | Drawing::DoCopyRect { .. }
+            | Drawing::DoCopyRegion { .. }
+            | Drawing::NewFramebuffer { .. } => mem::replace(&mut self.awaiting, 0),
         }
     }
 

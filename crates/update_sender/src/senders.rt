@@ -1,4 +1,4 @@
-//! Senders that wait, in 64 groups by their viewers' numbers, so that a call wakes those alone that it may give something to send.
+//! Senders that wait, in 64 groups by their viewers' numbers, so that a call wakes the groups alone in which it may give a sender something.
 
 ghost use Rattle.std.specs.Prelude.{◌≡◌, vec_len};
 
@@ -11,7 +11,7 @@ const GROUPS: u64 = 64;
 /// The set of all groups.
 pub(crate) const ALL_GROUPS: u64 = u64::MAX;
 
-/// Returns the set of the one group that a viewer's sender is in.
+/// Returns the set of the one group that a viewer's sender is in. The viewers 0 to 63 are each in the group of that number.
 pub(crate) fn group_of(viewer: u64) -> u64 {
     1 << (viewer % GROUPS) as u32
 }

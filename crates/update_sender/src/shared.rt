@@ -27,7 +27,7 @@ pub struct Shared<L: Ledger> {
     pub(crate) alloc: Global,
     pub(crate) config: Config,
     pub(crate) screen: Mutex<LockedScreen<L>>,
-    // those that wait
+    // the conditions on which senders wait
     pub(crate) senders: Senders,
 }
 
@@ -156,7 +156,7 @@ impl<L: Ledger> Shared<L> {
     }
 
     /// Hears it in one hold, once there is room for the piece among those that were heard: what the screen has heard is kept. A request
-    /// that can't be answered yet waits for a drawing call.
+    /// that isn't answered yet is noted, since a drawing call may answer it.
     fn hear_in_hold<R: Wait>(
         &self,
         rt: &R,
