@@ -125,6 +125,20 @@ static int pieces(void)
     return vnc_screen_close(s);
 }
 
+/* Where output waits for two viewers, each fetches its own, whichever came first. */
+static int each_its_own(void)
+{
+    uint8_t room[16];
+    DO(opens_with_asking(s));
+    IS(vnc_screen_cut(s, 7), 1);
+    IS(vnc_screen_connect(s, 8), 0);
+    IS(vnc_screen_output(s, 8, room, 16), 12);
+    HOLDS(memcmp(room, "RFB 003.008\n", 12) == 0);
+    IS(vnc_screen_output(s, 8, room, 16), 0);
+    HOLDS(gives(s, 0));
+    return 0;
+}
+
 /* An update apart has the bytes that the screen gives, and stays as it was cut. */
 static int apart(void)
 {
@@ -387,6 +401,7 @@ int main(void)
     DO(opens_or_not());
     DO(answers());
     DO(pieces());
+    DO(each_its_own());
     DO(apart());
     DO(in_order());
     DO(meanwhile());
