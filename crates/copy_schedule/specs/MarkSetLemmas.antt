@@ -338,9 +338,9 @@ screen_wider w h rs columns rows each = All-weaker (IsOnScreen w h) (IsOnScreen 
     farther x n a b = omega (arith, ints, a, b)
 
 -- what is left to owe after an update
-pub settled_are : (m : Marks) (copies pixels owed : List Rect) → ((x y : ℤ) → covers owed x y ≡ (not (is_clean (mark_at m x y)) && not (covers copies x y || covers pixels x y)))
+pub owing_only_are : (m : Marks) (copies pixels owed : List Rect) → ((x y : ℤ) → covers owed x y ≡ (not (is_clean (mark_at m x y)) && not (covers copies x y || covers pixels x y)))
     → record (with_marks m (λ x y. cond (covers owed x y) Owed Clean)) { offset = (pos 0, pos 0); asked = replicate (m.width * m.height) false } ≡ after_sending copies pixels m
-settled_are m copies pixels owed each = ap {A = List Mark} {B = Marks} (λ marks. record m { marks = marks; offset = (pos 0, pos 0); asked = replicate (m.width * m.height) false })
+owing_only_are m copies pixels owed each = ap {A = List Mark} {B = Marks} (λ marks. record m { marks = marks; offset = (pos 0, pos 0); asked = replicate (m.width * m.height) false })
     (same_by_place m.width m.height (λ x y. cond (covers owed x y) Owed Clean) (λ x y. cond (covers copies x y || covers pixels x y || is_clean (mark_at m x y)) Clean Owed) (λ x y on.
     ap (λ t. cond t Owed Clean) (each x y) ∙ either (covers copies x y) (covers pixels x y) (is_clean (mark_at m x y))))
   where

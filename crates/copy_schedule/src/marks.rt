@@ -357,7 +357,7 @@ impl Marks {
             pixels,
             owed,
         } = self.sending(limit)?;
-        let marks = self.settled(owed);
+        let marks = self.owing_only(owed);
         Ok(Some(PreparedCut {
             cut: Cut {
                 copies: Listed::from_vec(copies),
@@ -476,7 +476,7 @@ impl Marks {
     }
 
     // Returns the marks with the places of `owed` owed and no others, and none asked for.
-    fn settled(&self, owed: Region) -> Prepared
+    fn owing_only(&self, owed: Region) -> Prepared
         requires { LiesOn self.now.width self.now.height owed.list }
         ensures { result ≡ record (with_marks self.now (λ x y. if covers owed.list x y then Owed else Clean)) {
           offset =

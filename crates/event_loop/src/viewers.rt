@@ -107,7 +107,7 @@ impl<T: Transport> Viewers<T> {
 
     /// Makes a transport that came at the time `now` the next viewer's, and returns that one's number. None where memory is refused, or
     /// there is no further number: then nobody came.
-    fn seat(&mut self, now: Instant, transport: T) -> Option<u64>
+    fn admit_transport(&mut self, now: Instant, transport: T) -> Option<u64>
         ensures served { GoesOnFrom (record { unread = T.unread transport; written = T.written transport; sent = none_yet self.old.connections.kept }) self.old.connections self.new.connections }
         ensures limits { self.new.limits ≡ self.old.limits }
         ensures patience { self.new.newcomers.patience ≡ self.old.newcomers.patience }
@@ -216,7 +216,7 @@ impl<T: Transport + AsRawFd + SendsAtOnce + TakesLeave> Viewers<T> {
             return Ok(Admission::Refused);
         }
         set_up(&transport);
-        let Some(viewer) = self.seat(now, transport) else {
+        let Some(viewer) = self.admit_transport(now, transport) else {
             return Ok(Admission::Refused);
         };
         self.connections.tell_came(viewer, application)?;

@@ -38,9 +38,9 @@ abbrev pub something_to_send : Answer → Result Bool ScreenError
 something_to_send a = elim a.refused [ None ↦ Ok (some_bytes a.bytes) | Some e ↦ Err e ]
 
 -- what a call answered, by the answer to its value
-abbrev pub told : {X : Type 0} → (X → Answer) → Result X ScreenError → Answer
-told answer (Ok x) = answer x
-told answer (Err e) = refuses e
+abbrev pub as_answer : {X : Type 0} → (X → Answer) → Result X ScreenError → Answer
+as_answer answer (Ok x) = answer x
+as_answer answer (Err e) = refuses e
 
 -- a call tells the answer: it answers the refusal that stands there; where none does, it gives the rest, unless memory is refused
 abbrev pub Tells : {X : Type 0} → (X → Answer) → Result X ScreenError → Answer → Type 0

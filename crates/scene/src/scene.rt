@@ -9,7 +9,7 @@ ghost use Rattle.messages.specs.Reading.{fault_in_rest, is_open_rest};
 ghost use Rattle.messages.specs.Server.{server_version};
 ghost use Rattle.scene.specs.declared.Config.{Config};
 ghost use Rattle.scene.specs.declared.Event.{Event};
-ghost use Rattle.scene.specs.Alone.{config_refusal, pixels_refusal, size_refusal, text_refusal, nothing_to_say, gives, something_to_send, told};
+ghost use Rattle.scene.specs.Alone.{config_refusal, pixels_refusal, size_refusal, text_refusal, nothing_to_say, gives, something_to_send, as_answer};
 ghost use Rattle.scene.specs.Alone.{Tells};
 ghost use Rattle.viewer.specs.Given.{bytes_given, prepared_bytes};
 ghost use Rattle.scene.specs.Answers.{scene_after, answer_to};
@@ -533,7 +533,7 @@ impl Scene {
         ensures step { (config : Config) (list : List Event) → self.old ≡ scene_after config list →
             self.new ≡ scene_after config (list ++ Event.Close number ∷ []) }
         ensures answer { (config : Config) (list : List Event) → self.old ≡ scene_after config list →
-            told (λ _. nothing_to_say) result ≡ answer_to config list (Event.Close number) }
+            as_answer (λ _. nothing_to_say) result ≡ answer_to config list (Event.Close number) }
         ensures refused { MatchOption (absence (viewer_at self.old number)) (IsOk result) (λ e. result ≡ Err e) }
         ensures err { OnErr result (self.new ≡ self.old) }
     {
@@ -547,7 +547,7 @@ impl Scene {
         ensures step { (config : Config) (list : List Event) → self.old ≡ scene_after config list →
             self.new ≡ scene_after config (list ++ Event.Close number ∷ []) }
         ensures answer { (config : Config) (list : List Event) → self.old ≡ scene_after config list →
-            told (λ _. nothing_to_say) result ≡ answer_to config list (Event.Close number) }
+            as_answer (λ _. nothing_to_say) result ≡ answer_to config list (Event.Close number) }
         ensures refused { MatchOption (absence (viewer_at self.old number)) (IsOk result) (λ e. result ≡ Err e) }
         ensures err { OnErr result (self.new ≡ self.old) }
     {

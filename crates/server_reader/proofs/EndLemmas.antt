@@ -19,7 +19,7 @@ use Rattle.server_reader.specs.declared.stage.Stage.{Stage}
 use Rattle.server_reader.specs.declared.stage.Stage.TheVariants as stage
 use Rattle.server_reader.specs.Stages.{agreed, display, over, pixels_onto, filled, part_of, rre_parts_onto, tile_area, tile_parts_onto, tiles_onto, tile_of, tiles_behind, left_by, rectangles_behind, tiles_at_behind, pixels_behind, rest_of}
 use Rattle.server_reader.specs.OnPicture.{IsOn, StageIsOn}
-use Rattle.server_reader.specs.Steps.{IsView, Standing, GoesOn, is_faulted}
+use Rattle.server_reader.specs.Steps.{IsView, ReadingPoint, GoesOn, is_faulted}
 use Rattle.server_reader.specs.Readings.{start}
 use Rattle.server_reader.proofs.RectangleTurns.{next_known}
 
@@ -209,7 +209,7 @@ in_turn : {A B C : Type 0} (o : Option A) (f : A → Option B) (g : B → Option
 in_turn None f g = refl
 in_turn (Some x) f g = refl
 
-pub some_reading : (size : Size) (shown : Shown) (colours : ColourMap) (bytes : List ℕ) (s : Standing) → GoesOn (start size shown colours bytes) s → IsView s.view → s.view.held ≡ [] → s.left ≡ []
+pub some_reading : (size : Size) (shown : Shown) (colours : ColourMap) (bytes : List ℕ) (s : ReadingPoint) → GoesOn (start size shown colours bytes) s → IsView s.view → s.view.held ≡ [] → s.left ≡ []
     → is_faulted s.view.state.stage ≡ false → (later : List ℕ) × IsSome (messages_at (display size shown colours) (bytes ++ later))
 some_reading size shown colours bytes s goes is none_held none_left sound =
     let rest = ends s.view.state.size s.view.state.stage s.shown s.colours is.on sound in

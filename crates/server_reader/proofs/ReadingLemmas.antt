@@ -9,20 +9,20 @@ use Rattle.server_reader.specs.declared.stage.Size.{Size}
 use Rattle.server_reader.specs.declared.stage.Stage.{Stage}
 use Rattle.server_reader.specs.declared.stage.Stage.TheVariants as stage
 use Rattle.server_reader.specs.Stages.{display, rest_of}
-use Rattle.server_reader.specs.Steps.{View, shown_after, colours_after, Standing, GoesOn, HasNoReading, is_message, is_between}
+use Rattle.server_reader.specs.Steps.{View, shown_after, colours_after, ReadingPoint, GoesOn, HasNoReading, is_message, is_between}
 use Rattle.server_reader.specs.Readings.{start, ReadsAsTheRfc}
-use Rattle.server_reader.specs.StandingLemmas.{goes_on_itself, goes_on_through, goes_on_with}
+use Rattle.server_reader.specs.ReadingPointLemmas.{goes_on_itself, goes_on_through, goes_on_with}
 use Rattle.server_reader.proofs.EndLemmas.{some_reading}
 use Rattle.server_reader.specs.Pictures.{HasColour, drawn_agrees}
 
 -- ---- what is shown
 
-record IsBetween (s : Standing) : Type 0 where
+record IsBetween (s : ReadingPoint) : Type 0 where
   pub held : length s.view.held ≡ 0
   pub text : s.view.state.text ≡ 0
   pub stage : is_message s.view.state.stage ≡ true
 
-between : (s : Standing) → is_between s.view ≡ true → IsBetween s
+between : (s : ReadingPoint) → is_between s.view ≡ true → IsBetween s
 between s e =
     let parts = and_parts _ _ e in
     let first = and_parts _ _ parts.0 in
@@ -59,7 +59,7 @@ nothing_left n at d text bytes none ended is =
     ∙ ap (λ (o : Option (Display × List ℕ)). o >>= λ r. messages_in n r.0 r.1) (message_rest at d is)
     ∙ ends n d
 
-shows_pictures : (size : Size) (shown : Shown) (colours : ColourMap) (bytes : List ℕ) (s : Standing) → GoesOn (start size shown colours bytes) s → is_between s.view ≡ true → s.left ≡ []
+shows_pictures : (size : Size) (shown : Shown) (colours : ColourMap) (bytes : List ℕ) (s : ReadingPoint) → GoesOn (start size shown colours bytes) s → is_between s.view ≡ true → s.left ≡ []
     → messages_at (display size shown colours) bytes ≡ Some (display s.view.state.size s.shown s.colours)
 unfolding behind_text
 shows_pictures size first colours bytes s goes whole none =
@@ -72,29 +72,29 @@ shows_pictures size first colours bytes s goes whole none =
     ∙ same.is
     ∙ nothing_left same.left s.view.state.stage (display s.view.state.size s.shown s.colours) s.view.state.text (s.view.held ++ (s.left ++ [])) at.text ended at.stage
 
-no_reading : (size : Size) (shown : Shown) (colours : ColourMap) (bytes : List ℕ) (s : Standing) → GoesOn (start size shown colours bytes) s → HasNoReading s
+no_reading : (size : Size) (shown : Shown) (colours : ColourMap) (bytes : List ℕ) (s : ReadingPoint) → GoesOn (start size shown colours bytes) s → HasNoReading s
     → (later : List ℕ) → messages_at (display size shown colours) (bytes ++ later) ≡ None
 no_reading size first colours bytes s goes none later =
     let same = goes later (length (bytes ++ later)) (omega arith) in same.is ∙ none later same.left
 
 -- where a reader is, with so many bytes left of a piece
-abbrev standing : View → Shown → ColourMap → List ℕ → Standing
-standing view shown colours left = record { view = view; shown = shown; colours = colours; left = left }
+abbrev reading_point : View → Shown → ColourMap → List ℕ → ReadingPoint
+reading_point view shown colours left = record { view = view; shown = shown; colours = colours; left = left }
 
 pub reads_as_the_rfc : ReadsAsTheRfc
 reads_as_the_rfc = record {
   begins = λ size shown colours. goes_on_itself (start size shown colours []);
   step = λ r bytes piece next after read s.
-      goes_on_through (start r.size r.first r.map (bytes ++ s.front)) (standing r.view r.shown r.colours s.front) (standing after (shown_after next.step r.shown) (colours_after next.step r.colours) [])
-      (goes_on_with (start r.size r.first r.map bytes) (standing r.view r.shown r.colours []) s.front read) (s.goes r.shown r.colours);
+      goes_on_through (start r.size r.first r.map (bytes ++ s.front)) (reading_point r.view r.shown r.colours s.front) (reading_point after (shown_after next.step r.shown) (colours_after next.step r.colours) [])
+      (goes_on_with (start r.size r.first r.map bytes) (reading_point r.view r.shown r.colours []) s.front read) (s.goes r.shown r.colours);
   kept = λ r bytes piece after read k.
-      goes_on_through (start r.size r.first r.map (bytes ++ piece)) (standing r.view r.shown r.colours piece) (standing after r.shown r.colours [])
-      (goes_on_with (start r.size r.first r.map bytes) (standing r.view r.shown r.colours []) piece read) (k r.shown r.colours);
-  shows = λ r bytes read whole. shows_pictures r.size r.first r.map bytes (standing r.view r.shown r.colours []) read whole refl;
+      goes_on_through (start r.size r.first r.map (bytes ++ piece)) (reading_point r.view r.shown r.colours piece) (reading_point after r.shown r.colours [])
+      (goes_on_with (start r.size r.first r.map bytes) (reading_point r.view r.shown r.colours []) piece read) (k r.shown r.colours);
+  shows = λ r bytes read whole. shows_pictures r.size r.first r.map bytes (reading_point r.view r.shown r.colours []) read whole refl;
   refuses = λ r bytes piece read none.
-      no_reading r.size r.first r.map (bytes ++ piece) (standing r.view r.shown r.colours piece)
-      (goes_on_with (start r.size r.first r.map bytes) (standing r.view r.shown r.colours []) piece read) (none r.shown r.colours);
-  refuses_at_once = λ r bytes read is held sound. some_reading r.size r.first r.map bytes (standing r.view r.shown r.colours []) read is held refl sound;
+      no_reading r.size r.first r.map (bytes ++ piece) (reading_point r.view r.shown r.colours piece)
+      (goes_on_with (start r.size r.first r.map bytes) (reading_point r.view r.shown r.colours []) piece read) (none r.shown r.colours);
+  refuses_at_once = λ r bytes read is held sound. some_reading r.size r.first r.map bytes (reading_point r.view r.shown r.colours []) read is held refl sound;
 }
 
 -- ---- pictures

@@ -3,7 +3,7 @@ pub mod Stages
 pub mod OnPicture
 pub mod Heard
 pub mod Steps
-pub mod StandingLemmas
+pub mod ReadingPointLemmas
 pub mod Faults
 pub mod Runs
 pub mod Readings

@@ -14,11 +14,11 @@ abbrev pub colour_of : (pixel : ℕ) → ℕ
 colour_of pixel = pixel % 2 ^ 24
 
 -- what the caller does; what a new size leaves is its own choice
-abbrev pub drawn : Step → Picture → Picture
-drawn (step.Pixels a bytes) picture x y = if is_inside a x y then colour_of (rows_in a.w bytes.now (x - a.x) (y - a.y)) else picture x y
-drawn (step.Fill a pixel) picture x y = if is_inside a x y then colour_of pixel else picture x y
-drawn (step.Copy a from_x from_y) picture x y = if is_inside a x y then picture (x - a.x + from_x) (y - a.y + from_y) else picture x y
-drawn _ picture x y = picture x y
+abbrev pub picture_drawn : Step → Picture → Picture
+picture_drawn (step.Pixels a bytes) picture x y = if is_inside a x y then colour_of (rows_in a.w bytes.now (x - a.x) (y - a.y)) else picture x y
+picture_drawn (step.Fill a pixel) picture x y = if is_inside a x y then colour_of pixel else picture x y
+picture_drawn (step.Copy a from_x from_y) picture x y = if is_inside a x y then picture (x - a.x + from_x) (y - a.y + from_y) else picture x y
+picture_drawn _ picture x y = picture x y
 
 abbrev pub HasColour : Option Dot → (colour : ℕ) → Type 0
 HasColour None colour = Unit {0}
@@ -30,4 +30,4 @@ Agrees picture shown = (x y : ℕ) → HasColour (shown x y) (picture x y)
 
 -- a picture to which each step is done agrees with what the steps show
 abbrev pub drawn_agrees : Type 0
-drawn_agrees = (done : Step) (picture : Picture) (shown : Shown) → Agrees picture shown → Agrees (drawn done picture) (shown_after done shown)
+drawn_agrees = (done : Step) (picture : Picture) (shown : Shown) → Agrees picture shown → Agrees (picture_drawn done picture) (shown_after done shown)

@@ -5,10 +5,10 @@ use Rattle.viewer_picture.specs.Messages.{ColourMap, messages_at}
 use Rattle.server_reader.specs.declared.step.Next.{Next}
 use Rattle.server_reader.specs.declared.stage.Size.{Size}
 use Rattle.server_reader.specs.Stages.{display}
-use Rattle.server_reader.specs.Steps.{View, IsView, opened, Standing, GoesOn, shown_after, colours_after, IsStep, IsKept, IsNoMessage, is_faulted, is_between}
+use Rattle.server_reader.specs.Steps.{View, IsView, opened, ReadingPoint, GoesOn, shown_after, colours_after, IsStep, IsKept, IsNoMessage, is_faulted, is_between}
 
 -- a new reader, over whatever is shown, which is yet to be told bytes
-abbrev pub start : Size → Shown → ColourMap → List ℕ → Standing
+abbrev pub start : Size → Shown → ColourMap → List ℕ → ReadingPoint
 start size shown colours bytes = record { view = opened size.width size.height; shown = shown; colours = colours; left = bytes }
 
 -- What a reader began over, and where it is: its view, and what its steps show.

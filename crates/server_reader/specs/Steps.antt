@@ -75,22 +75,22 @@ abbrev pub opened : (width height : ℕ) → View
 opened width height = record { state = state_at (record { width = width; height = height }) stage.Message; held = [] }
 
 -- A reader, what its steps so far show, and the bytes that it is yet to be told.
-pub record Standing : Type 0 where
+pub record ReadingPoint : Type 0 where
   pub view : View
   pub shown : Shown
   pub colours : ColourMap
   pub left : List ℕ
 
 -- where the reading stands, with further bytes behind
-abbrev pub point : Standing → (later : List ℕ) → Point
+abbrev pub point : ReadingPoint → (later : List ℕ) → Point
 point s later = record { state = s.view.state; shown = s.shown; colours = s.colours; bytes = s.view.held ++ (s.left ++ later) }
 
 -- Both are points of one reading, whatever follows.
-abbrev pub GoesOn : Standing → Standing → Type 0
+abbrev pub GoesOn : ReadingPoint → ReadingPoint → Type 0
 GoesOn p q = (later : List ℕ) (n : ℕ) → length (p.view.held ++ (p.left ++ later)) ≤ n → Same n (point p later) (point q later)
 
 -- no bytes behind give a reading
-abbrev pub HasNoReading : Standing → Type 0
+abbrev pub HasNoReading : ReadingPoint → Type 0
 HasNoReading p = (later : List ℕ) (n : ℕ) → reads n (point p later) ≡ None
 
 -- The front of a piece was read, which is a step, whatever is shown; the rest of the piece is left.

@@ -4,27 +4,27 @@ use Rattle.encode_raw.specs.Reading.{Shown}
 use Rattle.viewer_picture.specs.Messages.{ColourMap, nothing_shown, nothing_mapped, messages_at}
 use Rattle.server_reader.specs.declared.stage.Size.{Size}
 use Rattle.server_reader.specs.Stages.{display}
-use Rattle.server_reader.specs.Steps.{View, Standing, GoesOn}
+use Rattle.server_reader.specs.Steps.{View, ReadingPoint, GoesOn}
 use Rattle.server_reader.specs.Readings.{start, ReadsAsTheRfc}
-use Rattle.server_reader.specs.StandingLemmas.{goes_on_itself, goes_on_through, goes_on_with}
+use Rattle.server_reader.specs.ReadingPointLemmas.{goes_on_itself, goes_on_through, goes_on_with}
 use Rattle.screen.specs.Frame.{Frame}
 use Rattle.source_picture.specs.Mirroring.{SourceView, shown_behind, colours_behind, IsMirrored, GivesNoReading, HasMirrored, MirrorsAsTheRfc}
 
-abbrev standing : View → Shown → ColourMap → List ℕ → Standing
-standing view shown colours left = record { view = view; shown = shown; colours = colours; left = left }
+abbrev reading_point : View → Shown → ColourMap → List ℕ → ReadingPoint
+reading_point view shown colours left = record { view = view; shown = shown; colours = colours; left = left }
 
 -- the bytes so far, and a further piece of them
 behind : (size : Size) (bytes piece : List ℕ) (view : SourceView) (picture : Frame) (h : HasMirrored size bytes view picture)
-    → GoesOn (start size nothing_shown nothing_mapped (bytes ++ piece)) (standing view.reader h.shown h.colours piece)
-behind size bytes piece view picture h = goes_on_with (start size nothing_shown nothing_mapped bytes) (standing view.reader h.shown h.colours []) piece h.read
+    → GoesOn (start size nothing_shown nothing_mapped (bytes ++ piece)) (reading_point view.reader h.shown h.colours piece)
+behind size bytes piece view picture h = goes_on_with (start size nothing_shown nothing_mapped bytes) (reading_point view.reader h.shown h.colours []) piece h.read
 
 mirrored_more : (size : Size) (bytes piece : List ℕ) (before after : SourceView) (old new : Frame) → HasMirrored size bytes before old → IsMirrored before piece after [] old new
     → HasMirrored size (bytes ++ piece) after new
 mirrored_more size bytes piece before after old new h m = record {
   shown = shown_behind m.steps h.shown;
   colours = colours_behind m.steps h.colours;
-  read = goes_on_through (start size nothing_shown nothing_mapped (bytes ++ piece)) (standing before.reader h.shown h.colours piece)
-      (standing after.reader (shown_behind m.steps h.shown) (colours_behind m.steps h.colours) []) (behind size bytes piece before old h) (m.read.goes h.shown h.colours);
+  read = goes_on_through (start size nothing_shown nothing_mapped (bytes ++ piece)) (reading_point before.reader h.shown h.colours piece)
+      (reading_point after.reader (shown_behind m.steps h.shown) (colours_behind m.steps h.colours) []) (behind size bytes piece before old h) (m.read.goes h.shown h.colours);
   mirrors = m.mirrors h.shown h.mirrors;
 }
 

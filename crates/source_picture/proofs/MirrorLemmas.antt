@@ -8,7 +8,7 @@ use Rattle.server_reader.specs.declared.step.Step.TheVariants as step
 use Rattle.server_reader.specs.declared.stage.Size.{Size}
 use Rattle.server_reader.specs.OnPicture.{IsOn, StepIsOn, size_after}
 use Rattle.server_reader.specs.Steps.{shown_after}
-use Rattle.server_reader.specs.Pictures.{Picture, HasColour, drawn}
+use Rattle.server_reader.specs.Pictures.{Picture, HasColour, picture_drawn}
 use Rattle.screen.specs.Frame.{Frame}
 use Rattle.screen.specs.Taken.{colour_on}
 use Rattle.source_picture.specs.Painting.{IsPainted, IsDone, LiesOn}
@@ -29,7 +29,7 @@ from_y_on : (size : Size) (a : Area) (from_x from_y x y : ℕ) → IsOn size (re
 from_y_on size a from_x from_y x y on inside = grind (arith, nat_tests, on.bottom)
 
 -- a step that lies on the picture leaves it as what is shown behind the step; behind a new size nothing is shown
-still_agrees : (size : Size) (done : Step) (picture : Picture) (shown : Shown) → StepIsOn size done → AgreesOn size picture shown → AgreesOn size (drawn done picture) (shown_after done shown)
+still_agrees : (size : Size) (done : Step) (picture : Picture) (shown : Shown) → StepIsOn size done → AgreesOn size picture shown → AgreesOn size (picture_drawn done picture) (shown_after done shown)
 still_agrees size (step.Pixels a bytes) picture shown on agrees x y p q = chosen (is_inside a x y) _ (shown x y) _ (picture x y) (λ e. refl) (agrees x y p q)
 still_agrees size (step.Fill a pixel) picture shown on agrees x y p q = chosen (is_inside a x y) _ (shown x y) _ (picture x y) (λ e. refl) (agrees x y p q)
 still_agrees size (step.Copy a from_x from_y) picture shown on agrees x y p q =
@@ -57,7 +57,7 @@ size_is size picture wide high =
     sym (ap down high ∙ ap across wide)
 
 -- the picture behind a change of its places
-painted : (size : Size) (done : Step) (shown : Shown) (old new : Frame) → StepIsOn size done → IsPainted (drawn done) old new → AgreesAt size shown old → AgreesAt size (shown_after done shown) new
+painted : (size : Size) (done : Step) (shown : Shown) (old new : Frame) → StepIsOn size done → IsPainted (picture_drawn done) old new → AgreesAt size shown old → AgreesAt size (shown_after done shown) new
 painted size done shown old new on paint agrees = record {
   wide = paint.wide ∙ agrees.wide;
   high = paint.high ∙ agrees.high;
@@ -71,7 +71,7 @@ painted size done shown old new on paint agrees = record {
 }
 
 -- a step that tells no size
-same : (before after : Size) (done : Step) (shown : Shown) (old new : Frame) → after ≡ before → StepIsOn after done → (LiesOn done old → IsPainted (drawn done) old new)
+same : (before after : Size) (done : Step) (shown : Shown) (old new : Frame) → after ≡ before → StepIsOn after done → (LiesOn done old → IsPainted (picture_drawn done) old new)
     → AgreesAt before shown old → AgreesAt after (shown_after done shown) new
 same before after done shown old new sized on paint agrees =
     let P : Size → Type 0 = λ s. StepIsOn s done in

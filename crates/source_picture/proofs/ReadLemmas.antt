@@ -8,8 +8,8 @@ use Rattle.server_reader.specs.declared.step.Step.{Step}
 use Rattle.server_reader.specs.declared.step.Next.{Next}
 use Rattle.server_reader.specs.declared.stage.Size.{Size}
 use Rattle.server_reader.specs.OnPicture.{StepIsOn, size_after}
-use Rattle.server_reader.specs.Steps.{View, shown_after, colours_after, Standing, GoesOn, IsStep, IsKept, IsNoMessage}
-use Rattle.server_reader.specs.StandingLemmas.{goes_on_itself, goes_on_through, goes_on_with}
+use Rattle.server_reader.specs.Steps.{View, shown_after, colours_after, ReadingPoint, GoesOn, IsStep, IsKept, IsNoMessage}
+use Rattle.server_reader.specs.ReadingPointLemmas.{goes_on_itself, goes_on_through, goes_on_with}
 use Rattle.screen.specs.Frame.{Frame}
 use Rattle.source_picture.specs.declared.source.DrawEnd.{DrawEnd}
 use Rattle.source_picture.specs.declared.source.DrawEnd.TheVariants as end
@@ -21,8 +21,8 @@ use Rattle.source_picture.specs.Mirroring.{SourceView, shown_behind, colours_beh
 use Rattle.source_picture.proofs.MirrorLemmas.{AgreesAt, step_agrees}
 
 -- where a reader is, with so many bytes left of a piece
-abbrev standing : View → Shown → ColourMap → List ℕ → Standing
-standing view shown colours left = record { view = view; shown = shown; colours = colours; left = left }
+abbrev reading_point : View → Shown → ColourMap → List ℕ → ReadingPoint
+reading_point view shown colours left = record { view = view; shown = shown; colours = colours; left = left }
 
 -- ---- pieces
 
@@ -34,26 +34,26 @@ further piece front left more end rest one two is = one ∙ ap (λ l. front ++ l
 
 -- nothing was read
 pub read_none : (v : SourceView) (piece : List ℕ) → IsReadAs v piece [] v piece
-read_none v piece = record { read = inl (refl, refl); goes = λ shown colours. goes_on_itself (standing v.reader shown colours piece); asked = refl; text = refl }
+read_none v piece = record { read = inl (refl, refl); goes = λ shown colours. goes_on_itself (reading_point v.reader shown colours piece); asked = refl; text = refl }
 
 -- all of a piece was taken, and more is needed
 pub read_kept : (before after : SourceView) (piece : List ℕ) → IsKept before.reader piece after.reader → after.asking ≡ before.asking → after.text ≡ before.text → IsReadAs before piece [] after []
 read_kept before after piece kept asked text = record { read = inr (kept, refl); goes = kept; asked = asked; text = text }
 
 step_goes : (before after : View) (piece : List ℕ) (next : Next) → IsStep before piece next after → (shown : Shown) (colours : ColourMap)
-    → GoesOn (standing before shown colours piece) (standing after (shown_after next.step shown) (colours_after next.step colours) next.rest.now)
+    → GoesOn (reading_point before shown colours piece) (reading_point after (shown_after next.step shown) (colours_after next.step colours) next.rest.now)
 step_goes before after piece next it shown colours =
-    let P : List ℕ → Type 0 = λ l. GoesOn (standing before shown colours l) (standing after (shown_after next.step shown) (colours_after next.step colours) next.rest.now) in
+    let P : List ℕ → Type 0 = λ l. GoesOn (reading_point before shown colours l) (reading_point after (shown_after next.step shown) (colours_after next.step colours) next.rest.now) in
     subst P (sym it.is)
-    (goes_on_with (standing before shown colours it.front) (standing after (shown_after next.step shown) (colours_after next.step colours) []) next.rest.now (it.goes shown colours))
+    (goes_on_with (reading_point before shown colours it.front) (reading_point after (shown_after next.step shown) (colours_after next.step colours) []) next.rest.now (it.goes shown colours))
 
 -- a step, and then others
 pub read_more : (a b c : SourceView) (piece rest : List ℕ) (next : Next) (steps : List Step) → IsNext a piece next b → IsReadAs b next.rest.now steps c rest → IsReadAs a piece (next.step ∷ steps) c rest
 read_more a b c piece rest next steps one others = record {
   read = record { next = next; after = b.reader; read = one.read; is = refl; ended = one.ended; more = others.read };
   goes = λ shown colours.
-      goes_on_through (standing a.reader shown colours piece) (standing b.reader (shown_after next.step shown) (colours_after next.step colours) next.rest.now)
-      (standing c.reader (shown_behind steps (shown_after next.step shown)) (colours_behind steps (colours_after next.step colours)) rest)
+      goes_on_through (reading_point a.reader shown colours piece) (reading_point b.reader (shown_after next.step shown) (colours_after next.step colours) next.rest.now)
+      (reading_point c.reader (shown_behind steps (shown_after next.step shown)) (colours_behind steps (colours_after next.step colours)) rest)
       (step_goes a.reader b.reader piece next one.read shown colours) (others.goes (shown_after next.step shown) (colours_after next.step colours));
   asked = others.asked ∙ ap (asked_behind steps) one.asked;
   text = others.text ∙ ap (text_behind steps) one.text;

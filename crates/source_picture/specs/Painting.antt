@@ -8,7 +8,7 @@ use Rattle.server_reader.specs.declared.stage.Size.{Size}
 use Rattle.server_reader.specs.OnPicture.{StepIsOn}
 use Rattle.server_reader.specs.Groups.{pixel_in}
 use Rattle.server_reader.specs.Steps.{rows_in}
-use Rattle.server_reader.specs.Pictures.{Picture, colour_of, drawn}
+use Rattle.server_reader.specs.Pictures.{Picture, colour_of, picture_drawn}
 use Rattle.screen.specs.declared.ScreenError.{ScreenError}
 use Rattle.screen.specs.declared.ScreenError.TheVariants as refusal
 use Rattle.screen.specs.Alone.{is_size}
@@ -49,7 +49,7 @@ pub record HasSize (width height : ℕ) (f : Frame) : Type 0 where
 -- A step is done to a picture: each place has what it is to have, or the picture has the step's size.
 abbrev pub IsDone : Step → (old new : Frame) → Type 0
 IsDone (step.Size width height) old new = HasSize width height new
-IsDone done old new = IsPainted (drawn done) old new
+IsDone done old new = IsPainted (picture_drawn done) old new
 
 -- what a reader's steps keep to on a picture of its size: areas that lie on it, and as many pixels as places
 abbrev pub LiesOn : Step → Frame → Type 0

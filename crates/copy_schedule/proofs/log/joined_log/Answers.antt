@@ -1,7 +1,6 @@
-use Rattle.std.proofs.Common.{subst, sym, ℕ, List}
+use Rattle.std.proofs.Common.{subst, sym}
 use Rattle.std.specs.List.{All}
 use Rattle.std.proofs.lemmas.Result.{IfOk-weaker}
-use Rattle.copy_schedule.specs.declared.LogEntry.{LogEntry}
 use Rattle.copy_schedule.specs.Log.{IsCutEntry}
 use Rattle.copy_schedule.proofs.log.joined_log.Goals as goal
 

@@ -6,7 +6,7 @@ use Rattle.region.specs.CopyOrderLemmas.{copies-in-order, in-order-take}
 use Rattle.region.specs.Places.{IsOnScreen, source_rect}
 use Rattle.copy_schedule.specs.Marks.{after_sending, copies_of, pixels_of, pending, copyable}
 use Rattle.copy_schedule.specs.CutLemmas.{copies_on_screen, sources_inside, pixels_on_screen}
-use Rattle.copy_schedule.specs.MarkSetLemmas.{settled_are}
+use Rattle.copy_schedule.specs.MarkSetLemmas.{owing_only_are}
 use Rattle.copy_schedule.proofs.marks.Marks.prepare_cut.Goals as goal
 
 pub returns-clause-after : goal.returns-clause-after
@@ -15,8 +15,8 @@ returns-clause-after c =
     let limit = c.args.limit in
     let sent = c.in_ok-copies.field-0 in
     let is_pending : pending m ≡ true = sym c.pending.ensures ∙ c.if-not-pending.false in
-    c.settled-marks.ensures
-    ∙ settled_are m sent.copies.items sent.pixels.items sent.owed.list c.in_ok-copies.ensures.owed
+    c.owing_only-marks.ensures
+    ∙ owing_only_are m sent.copies.items sent.pixels.items sent.owed.list c.in_ok-copies.ensures.owed
     ∙ ap (λ (rs : List Rect). after_sending rs sent.pixels.items m) c.in_ok-copies.ensures.copies ∙ ap (λ (rs : List Rect). after_sending (copies_of limit m) rs m) c.in_ok-copies.ensures.pixels
     ∙ sym (ap (λ b. cond b (after_sending (copies_of limit m) (pixels_of limit m) m) m) is_pending)
 

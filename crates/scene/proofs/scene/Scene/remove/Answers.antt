@@ -5,7 +5,7 @@ use Rattle.viewer_list.specs.Viewers.{Viewers}
 use Rattle.scene.specs.declared.Event.TheVariants.{Close}
 use Rattle.scene.specs.Consistent.{IsConsistent, IsSized}
 use Rattle.scene.specs.Answers.{scene_after, answer_to}
-use Rattle.scene.specs.Alone.{at_size, nothing_to_say, told}
+use Rattle.scene.specs.Alone.{at_size, nothing_to_say, as_answer}
 use Rattle.scene.proofs.Connected.{viewer_numbered}
 use Rattle.scene.proofs.Found.{not-none}
 use Rattle.scene.proofs.Kept.{all-some}
@@ -34,7 +34,7 @@ returns-clause-step c = λ config list h.
 pub returns-clause-answer : goal.returns-clause-answer
 returns-clause-answer c = λ config list h.
     let here = c.self.inside in
-    at_config (λ k. told (λ _. nothing_to_say) c.match-remove.result ≡ answer_to k list (Close c.args.number)) here.config config here.picture here.viewers.pairs list (c.self.view_is ∙ h) (λ k.
+    at_config (λ k. as_answer (λ _. nothing_to_say) c.match-remove.result ≡ answer_to k list (Close c.args.number)) here.config config here.picture here.viewers.pairs list (c.self.view_is ∙ h) (λ k.
     elim c.match-remove.branch [
       | in-Ok w ↦ (let there = not-none (viewer_numbered here.viewers.pairs c.args.number) w.in-Ok.ensures.found in rw w.result-is (close-answer_there here.config list here.picture here.viewers.pairs c.args.number there.0 k there.1))
       | in-Err w ↦ rw w.result-is (close-answer_absent here.config list here.picture here.viewers.pairs c.args.number k w.in-Err.ensures.found)

@@ -6,7 +6,7 @@ use Rattle.region.specs.Places.{by_place}
 use Rattle.copy_schedule.specs.Marks.{Marks, with_marks}
 use Rattle.copy_schedule.specs.MarkSets.{mark_in_sets}
 use Rattle.copy_schedule.specs.MarkSetLemmas.{Shows, none_asked, only_owed}
-use Rattle.copy_schedule.proofs.marks.Marks.settled.Goals as goal
+use Rattle.copy_schedule.proofs.marks.Marks.owing_only.Goals as goal
 
 pub returns : goal.returns
 returns c =
