@@ -50,11 +50,15 @@ nothing-cut v a h = go a.refused refl h
     go (Some e) is h = absurd cc
 
 -- a cut that gave an update, and one that gave none
-pub records-cut : (c : Config) (list : List Event) (v : ℕ) (u : List ℕ) (old new : Option Scribed) → u ≢ [] → Tells cut_gives (Ok (Some u)) (answer_to c list (Cut v)) → PutsWhere (event_line (Cut v)) old new → RecordsMore c list (Cut v ∷ []) old new
-records-cut c list v u old new some told puts = records-event c list (Cut v) old new (cut-happened v u (answer_to c list (Cut v)) some told) puts
+pub records-cut : (c : Config) (list : List Event) (v : ℕ) (o : Option (List ℕ)) (u : List ℕ) (old new : Option Scribed) → o ≡ Some u → IfSome o (λ w. w ≢ []) → Tells cut_gives (Ok o) (answer_to c list (Cut v)) → PutsWhere (event_line (Cut v)) old new
+    → RecordsMore c list (Cut v ∷ []) old new
+records-cut c list v o u old new is full told puts =
+    records-event c list (Cut v) old new
+    (cut-happened v u (answer_to c list (Cut v)) (subst (λ (q : Option (List ℕ)). IfSome q (λ w. w ≢ [])) is full) (subst (λ (q : Option (List ℕ)). Tells cut_gives (Ok q) (answer_to c list (Cut v))) is told)) puts
 
-pub records-uncut : (c : Config) (list : List Event) (v : ℕ) (s : Option Scribed) → Tells cut_gives (Ok None) (answer_to c list (Cut v)) → RecordsMore c list (Cut v ∷ []) s s
-records-uncut c list v s told = records-nothing c list (Cut v ∷ []) s s (none-happens c list (Cut v) (nothing-cut v (answer_to c list (Cut v)) told)) refl
+pub records-uncut : (c : Config) (list : List Event) (v : ℕ) (o : Option (List ℕ)) (s : Option Scribed) → o ≡ None → Tells cut_gives (Ok o) (answer_to c list (Cut v)) → RecordsMore c list (Cut v ∷ []) s s
+records-uncut c list v o s is told =
+    records-nothing c list (Cut v ∷ []) s s (none-happens c list (Cut v) (nothing-cut v (answer_to c list (Cut v)) (subst (λ (q : Option (List ℕ)). Tells cut_gives (Ok q) (answer_to c list (Cut v))) is told))) refl
 
 -- a piece that was heard happened
 pub heard-happens : (c : Config) (list : List Event) (n : ℕ) (piece : List ℕ) (x : Answer) → Tells (λ (q : Answer). q) (Ok x) (answer_to c list (Hear n piece)) → AllHappen c list (Hear n piece ∷ [])
@@ -68,22 +72,3 @@ cut-happens c list n o u is full told =
 
 pub uncut-happens : (c : Config) (list : List Event) (n : ℕ) (o : Option (List ℕ)) → o ≡ None → Tells cut_gives (Ok o) (answer_to c list (Cut n)) → accepted c (list ++ Cut n ∷ []) ≡ accepted c list
 uncut-happens c list n o is told = none-happens c list (Cut n) (nothing-cut n (answer_to c list (Cut n)) (subst (λ (q : Option (List ℕ)). Tells cut_gives (Ok q) (answer_to c list (Cut n))) is told))
-
--- a piece that was heard, and then recorded
-pub heard-more : (c : Config) (list : List Event) (n : ℕ) (piece : List ℕ) (x : Answer) (a b d : Surface) → Tells (λ (q : Answer). q) (Ok x) (answer_to c list (Hear n piece)) → b.scribed ≡ a.scribed → PutsWhere (event_line (Hear n piece)) b.scribed d.scribed
-    → RecordsMore c list (Hear n piece ∷ []) a.scribed d.scribed
-heard-more c list n piece x a b d told same puts =
-    subst (λ (s : Option Scribed). RecordsMore c list (Hear n piece ∷ []) s d.scribed) same (records-told (λ (q : Answer). q) x (Hear n piece) c list b.scribed d.scribed (λ q. refl) told puts)
-
--- an update that was cut, and then recorded
-pub cut-more : (c : Config) (list : List Event) (n : ℕ) (o : Option (List ℕ)) (u : List ℕ) (a b d : Surface) → o ≡ Some u → IfSome o (λ w. w ≢ []) → Tells cut_gives (Ok o) (answer_to c list (Cut n)) → b.scribed ≡ a.scribed
-    → PutsWhere (event_line (Cut n)) b.scribed d.scribed → RecordsMore c list (Cut n ∷ []) a.scribed d.scribed
-cut-more c list n o u a b d is full told same puts =
-    subst (λ (s : Option Scribed). RecordsMore c list (Cut n ∷ []) s d.scribed) same
-    (records-cut c list n u b.scribed d.scribed (subst (λ (q : Option (List ℕ)). IfSome q (λ w. w ≢ [])) is full) (subst (λ (q : Option (List ℕ)). Tells cut_gives (Ok q) (answer_to c list (Cut n))) is told) puts)
-
--- none was cut
-pub uncut-more : (c : Config) (list : List Event) (n : ℕ) (o : Option (List ℕ)) (a b : Surface) → o ≡ None → Tells cut_gives (Ok o) (answer_to c list (Cut n)) → b.scribed ≡ a.scribed → RecordsMore c list (Cut n ∷ []) a.scribed b.scribed
-uncut-more c list n o a b is told same =
-    subst (λ (s : Option Scribed). RecordsMore c list (Cut n ∷ []) a.scribed s) (sym same)
-    (records-uncut c list n a.scribed (subst (λ (q : Option (List ℕ)). Tells cut_gives (Ok q) (answer_to c list (Cut n))) is told))

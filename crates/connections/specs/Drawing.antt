@@ -1,15 +1,17 @@
 -- What an application does to a screen.
-use Rattle.std.specs.Prelude.{◌≡◌, ℕ, Bool, true, false, List, [], ◌++◌, ◌||◌, Option, None, Some}
+use Rattle.std.specs.Prelude.{◌≡◌, ℕ, Bool, true, false, List, [], ◌∷◌, ◌++◌, ◌||◌, Option, None, Some, Result, OnOk, OnErr}
 use Rattle.std.specs.List.{list_all, list_any}
 use Rattle.screen.specs.declared.Config.{Config}
 use Rattle.screen.specs.declared.Event.{Event}
 use Rattle.screen.specs.declared.Event.TheVariants.{Bell, CutText}
+use Rattle.screen.specs.declared.ScreenError.{ScreenError}
 use Rattle.screen.specs.Alone.{owner_of}
 use Rattle.screen.specs.Answers.{is_drawing}
+use Rattle.screen.specs.Refusals.{Refuses}
 use Rattle.viewer.specs.Viewer.{is_asking}
 use Rattle.scribe.specs.Scribing.{Scribed}
 use Rattle.connections.specs.Recorded.{RecordsMore}
-use Rattle.screen.specs.State.{State, state, viewer_at}
+use Rattle.screen.specs.State.{State, state, viewer_at, refusal}
 
 -- a screen, what is written of its events, where that is, whether it may have been drawn on since its viewers were looked at, and whether a bell or a text may be among that
 pub record Surface : Type 0 where
@@ -56,3 +58,13 @@ pub record IsDrawnFrom (c : Config) (list : List Event) (since surface : Surface
 -- nothing but drawing calls happened
 abbrev pub Draws : Surface → Surface → Type 0
 Draws old new = (c : Config) (list : List Event) (since : Surface) → IsDrawnFrom c list since old → IsDrawnFrom c list since new
+
+-- What a drawing call does to a surface: the screen stands for the events so far with its own behind them, and the record says so; else it is refused for the reason that is due, or for memory, and screen and record stay. The viewers are to be looked at in each case.
+pub record IsDrawnOn (old : Surface) (e : Event) (result : Result (Unit {0}) ScreenError) (new : Surface) : Type 0 where
+  pub step : (config : Config) (list : List Event) → old.screen ≡ state config list → OnOk result (new.screen ≡ state config (list ++ e ∷ []))
+  pub recorded : (config : Config) (list : List Event) → old.screen ≡ state config list → OnOk result (RecordsMore config list (e ∷ []) old.scribed new.scribed)
+  pub unrecorded : OnErr result (new.scribed ≡ old.scribed)
+  pub refused : Refuses result (refusal old.screen e)
+  pub err : OnErr result (new.screen ≡ old.screen)
+  pub draws : Draws old new
+  pub noted : IsNotedAfter e old new

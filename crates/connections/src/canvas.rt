@@ -1,10 +1,9 @@
 //! The screen as an application draws on it.
 
-ghost use Rattle.std.specs.Prelude.{◌≡◌, ◌++◌, ◌∷◌, [], ◌≢◌, List, None, true, false, nat_lt, IfOk, IfSome, IsOkUnless, OnOk, OnErr, option_map};
+ghost use Rattle.std.specs.Prelude.{◌≡◌, ◌++◌, ◌∷◌, [], ◌≢◌, List, None, true, false, nat_lt, IfOk, IfSome, OnOk, OnErr, option_map};
 ghost use Rattle.screen.specs.declared.Config.{Config};
 ghost use Rattle.screen.specs.declared.Event.{Event};
 ghost use Rattle.screen.specs.Alone.{Tells, config_refusal};
-ghost use Rattle.recorder.specs.Events.{event_line};
 ghost use Rattle.screen.specs.Answers.{answer_to};
 ghost use Rattle.screen.specs.Refusals.{Refuses, absence, presence};
 ghost use Rattle.screen.specs.State.{state, refusal, viewer_at};
@@ -12,11 +11,11 @@ ghost use Rattle.screen.specs.Takes.{Takes, TakesTelling};
 ghost use Rattle.viewer.specs.Given.{bytes_given};
 ghost use Rattle.screen.specs.Calls.{event_of};
 ghost use Rattle.connections.specs.Recorded.{cut_gives, PutsWhere, RecordsMore, IsFlushed, held_by, is_broken};
-ghost use Rattle.connections.specs.Drawing.{Draws, full_requests_on, is_asking_on, is_notice, IsNotedAfter};
+ghost use Rattle.connections.specs.Drawing.{Draws, full_requests_on, is_asking_on, is_notice, IsDrawnOn, IsNotedAfter};
 
 use crate::record::Record;
 use listed::Listed;
-use screen::{Answer, Drawing, PixelSource, Rect, Region, Screen, ScreenError, Update};
+use screen::{Answer, Draw, Drawing, PixelSource, Screen, ScreenError, Update};
 use std::alloc::Global;
 use std::marker::Model;
 
@@ -128,7 +127,7 @@ impl Canvas {
         &self.screen
     }
 
-    /// Makes a drawing call that is given as a value, as `Screen::draw` does.
+    /// Does a drawing call, one of those of `Draw`, as a value. Refuses what `Screen::draw` refuses.
     pub fn draw(&mut self, drawing: &Drawing<'_>) -> Result<(), ScreenError>
         ensures step { (config : Config) (list : List Event) → self.old.screen ≡ state config list →
             OnOk result (self.new.screen ≡ state config (list ++ event_of drawing.now ∷ [])) }
@@ -145,162 +144,6 @@ impl Canvas {
         self.screen.draw(drawing)?;
         self.recorder.drew(drawing);
         Ok(())
-    }
-
-    /// Draws as `Screen::paint` does.
-    pub fn paint(&mut self, rect: Rect, colours: &[u32]) -> Result<(), ScreenError>
-        ensures step { (config : Config) (list : List Event) → self.old.screen ≡ state config list →
-            OnOk result (self.new.screen ≡ state config (list ++ Event.Paint rect colours.now ∷ [])) }
-        ensures refused { Refuses result (refusal self.old.screen (Event.Paint rect colours.now)) }
-        ensures err { OnErr result (self.new.screen ≡ self.old.screen) }
-        ensures draws { Draws self.old self.new }
-        ensures drawn { self.new.drawn ≡ true }
-    {
-        self.draw(&Drawing::Paint { rect, colours })
-    }
-
-    /// Draws as `Screen::write_pixels` does.
-    pub fn write_pixels(&mut self, rect: Rect, colours: &[u32]) -> Result<(), ScreenError>
-        ensures step { (config : Config) (list : List Event) → self.old.screen ≡ state config list →
-            OnOk result (self.new.screen ≡ state config (list ++ Event.Write rect colours.now ∷ [])) }
-        ensures refused { Refuses result (refusal self.old.screen (Event.Write rect colours.now)) }
-        ensures err { OnErr result (self.new.screen ≡ self.old.screen) }
-        ensures draws { Draws self.old self.new }
-        ensures drawn { self.new.drawn ≡ true }
-    {
-        self.draw(&Drawing::Write { rect, colours })
-    }
-
-    /// Draws as `Screen::mark_rect` does.
-    pub fn mark_rect(&mut self, x1: i32, y1: i32, x2: i32, y2: i32) -> Result<(), ScreenError>
-        ensures step { (config : Config) (list : List Event) → self.old.screen ≡ state config list →
-            OnOk result (self.new.screen ≡ state config (list ++ Event.Mark (record { x1 = x1; y1 = y1; x2 = x2; y2 = y2 } ∷ []) ∷ [])) }
-        ensures refused { IsOkUnless result ScreenError.OutOfMemory }
-        ensures err { OnErr result (self.new.screen ≡ self.old.screen) }
-        ensures draws { Draws self.old self.new }
-        ensures drawn { self.new.drawn ≡ true }
-    {
-        let rect = Rect { x1, y1, x2, y2 };
-        self.draw(&Drawing::MarkRect(rect))
-    }
-
-    /// Draws as `Screen::mark_region` does.
-    pub fn mark_region(&mut self, region: &Region) -> Result<(), ScreenError>
-        ensures step { (config : Config) (list : List Event) → self.old.screen ≡ state config list →
-            OnOk result (self.new.screen ≡ state config (list ++ Event.Mark region.now.list ∷ [])) }
-        ensures refused { IsOkUnless result ScreenError.OutOfMemory }
-        ensures err { OnErr result (self.new.screen ≡ self.old.screen) }
-        ensures draws { Draws self.old self.new }
-        ensures drawn { self.new.drawn ≡ true }
-    {
-        self.draw(&Drawing::MarkRegion(region))
-    }
-
-    /// Draws as `Screen::schedule_copy_rect` does.
-    pub fn schedule_copy_rect(
-        &mut self,
-        x1: i32,
-        y1: i32,
-        x2: i32,
-        y2: i32,
-        dx: i32,
-        dy: i32,
-    ) -> Result<(), ScreenError>
-        ensures step { (config : Config) (list : List Event) → self.old.screen ≡ state config list →
-            OnOk result (self.new.screen ≡ state config (list ++ Event.ScheduleCopy (record { x1 = x1; y1 = y1; x2 = x2; y2 = y2 } ∷ []) dx dy ∷ [])) }
-        ensures refused { IsOkUnless result ScreenError.OutOfMemory }
-        ensures err { OnErr result (self.new.screen ≡ self.old.screen) }
-        ensures draws { Draws self.old self.new }
-        ensures drawn { self.new.drawn ≡ true }
-    {
-        let rect = Rect { x1, y1, x2, y2 };
-        self.draw(&Drawing::ScheduleCopyRect { rect, dx, dy })
-    }
-
-    /// Draws as `Screen::schedule_copy_region` does.
-    pub fn schedule_copy_region(
-        &mut self,
-        region: &Region,
-        dx: i32,
-        dy: i32,
-    ) -> Result<(), ScreenError>
-        ensures step { (config : Config) (list : List Event) → self.old.screen ≡ state config list →
-            OnOk result (self.new.screen ≡ state config (list ++ Event.ScheduleCopy region.now.list dx dy ∷ [])) }
-        ensures refused { IsOkUnless result ScreenError.OutOfMemory }
-        ensures err { OnErr result (self.new.screen ≡ self.old.screen) }
-        ensures draws { Draws self.old self.new }
-        ensures drawn { self.new.drawn ≡ true }
-    {
-        self.draw(&Drawing::ScheduleCopyRegion { region, dx, dy })
-    }
-
-    /// Draws as `Screen::do_copy_rect` does.
-    pub fn do_copy_rect(
-        &mut self,
-        x1: i32,
-        y1: i32,
-        x2: i32,
-        y2: i32,
-        dx: i32,
-        dy: i32,
-    ) -> Result<(), ScreenError>
-        ensures step { (config : Config) (list : List Event) → self.old.screen ≡ state config list →
-            OnOk result (self.new.screen ≡ state config (list ++ Event.DoCopy (record { x1 = x1; y1 = y1; x2 = x2; y2 = y2 } ∷ []) dx dy ∷ [])) }
-        ensures refused { IsOkUnless result ScreenError.OutOfMemory }
-        ensures err { OnErr result (self.new.screen ≡ self.old.screen) }
-        ensures draws { Draws self.old self.new }
-        ensures drawn { self.new.drawn ≡ true }
-    {
-        let rect = Rect { x1, y1, x2, y2 };
-        self.draw(&Drawing::DoCopyRect { rect, dx, dy })
-    }
-
-    /// Draws as `Screen::do_copy_region` does.
-    pub fn do_copy_region(&mut self, region: &Region, dx: i32, dy: i32) -> Result<(), ScreenError>
-        ensures step { (config : Config) (list : List Event) → self.old.screen ≡ state config list →
-            OnOk result (self.new.screen ≡ state config (list ++ Event.DoCopy region.now.list dx dy ∷ [])) }
-        ensures refused { IsOkUnless result ScreenError.OutOfMemory }
-        ensures err { OnErr result (self.new.screen ≡ self.old.screen) }
-        ensures draws { Draws self.old self.new }
-        ensures drawn { self.new.drawn ≡ true }
-    {
-        self.draw(&Drawing::DoCopyRegion { region, dx, dy })
-    }
-
-    /// Rings the bell, as `Screen::bell` does.
-    pub fn bell(&mut self) -> Result<(), ScreenError>
-        ensures step { (config : Config) (list : List Event) → self.old.screen ≡ state config list →
-            OnOk result (self.new.screen ≡ state config (list ++ Event.Bell ∷ [])) }
-        ensures refused { IsOkUnless result ScreenError.OutOfMemory }
-        ensures err { OnErr result (self.new.screen ≡ self.old.screen) }
-        ensures draws { Draws self.old self.new }
-        ensures drawn { self.new.drawn ≡ true }
-    {
-        self.draw(&Drawing::Bell)
-    }
-
-    /// Gives a text to every viewer, as `Screen::cut_text` does.
-    pub fn cut_text(&mut self, text: &[u8]) -> Result<(), ScreenError>
-        ensures step { (config : Config) (list : List Event) → self.old.screen ≡ state config list →
-            OnOk result (self.new.screen ≡ state config (list ++ Event.CutText text.now ∷ [])) }
-        ensures refused { Refuses result (refusal self.old.screen (Event.CutText text.now)) }
-        ensures err { OnErr result (self.new.screen ≡ self.old.screen) }
-        ensures draws { Draws self.old self.new }
-        ensures drawn { self.new.drawn ≡ true }
-    {
-        self.draw(&Drawing::CutText(text))
-    }
-
-    /// Replaces the framebuffer, as `Screen::new_framebuffer` does.
-    pub fn new_framebuffer(&mut self, width: u32, height: u32) -> Result<(), ScreenError>
-        ensures step { (config : Config) (list : List Event) → self.old.screen ≡ state config list →
-            OnOk result (self.new.screen ≡ state config (list ++ Event.Resize width height ∷ [])) }
-        ensures refused { Refuses result (refusal self.old.screen (Event.Resize width height)) }
-        ensures err { OnErr result (self.new.screen ≡ self.old.screen) }
-        ensures draws { Draws self.old self.new }
-        ensures drawn { self.new.drawn ≡ true }
-    {
-        self.draw(&Drawing::NewFramebuffer { width, height })
     }
 
     /// Takes a program's own pixels into the picture, as `Screen::take` does: paints what differs.
@@ -373,7 +216,7 @@ impl Canvas {
         Ok(version)
     }
 
-    /// Hears a piece, as `Screen::hear` does. `record_heard` goes with it.
+    /// Hears a piece, as `Screen::hear` does, and records it.
     pub(crate) fn hear(&mut self, number: u64, piece: &[u8]) -> Result<Answer, ScreenError>
         ensures step { (config : Config) (list : List Event) → self.old.screen ≡ state config list →
             OnOk result (self.new.screen ≡ state config (list ++ Event.Hear number piece.now ∷ [])) }
@@ -385,20 +228,16 @@ impl Canvas {
             IfOk result (λ answer. answer.inputs ≡ (answer_to config list (Event.Hear number piece.now)).inputs) }
         ensures closed { (config : Config) (list : List Event) → self.old.screen ≡ state config list →
             IfOk result (λ answer. answer.closed ≡ (answer_to config list (Event.Hear number piece.now)).closed) }
+        ensures recorded { (config : Config) (list : List Event) → self.old.screen ≡ state config list →
+            OnOk result (RecordsMore config list (Event.Hear number piece.now ∷ []) self.old.scribed self.new.scribed) }
         ensures accepted { IfOk result (λ answer. answer.refused ≡ None) }
         ensures refused { Refuses result (absence (viewer_at self.old.screen number)) }
-        ensures same { self.new ≡ record self.old { screen = self.new.screen } }
+        ensures same { self.new ≡ record self.old { screen = self.new.screen; scribed = self.new.scribed } }
         ensures err { OnErr result (self.new ≡ self.old) }
     {
-        self.screen.hear(number, piece)
-    }
-
-    /// Records a piece that was heard, where the session is recorded.
-    pub(crate) fn record_heard(&mut self, number: u64, piece: &[u8])
-        ensures puts { PutsWhere (event_line (Event.Hear number piece.now)) self.old.scribed self.new.scribed }
-        ensures same { self.new ≡ record self.old { scribed = self.new.scribed } }
-    {
+        let answer = self.screen.hear(number, piece)?;
         self.recorder.heard(number, piece);
+        Ok(answer)
     }
 
     /// Encodes ahead for viewers that are alike, as `Screen::encode_ahead` does.
@@ -409,7 +248,7 @@ impl Canvas {
         self.screen.encode_ahead(number)
     }
 
-    /// Cuts an update, as `Screen::cut` does. `record_cut` goes with it, where there is an update.
+    /// Cuts an update, as `Screen::cut` does, and records that where there is one.
     pub(crate) fn cut(&mut self, number: u64) -> Result<Option<Update>, ScreenError>
         ensures step { (config : Config) (list : List Event) → self.old.screen ≡ state config list →
             OnOk result (self.new.screen ≡ state config (list ++ Event.Cut number ∷ [])) }
@@ -417,20 +256,18 @@ impl Canvas {
             Tells cut_gives result (answer_to config list (Event.Cut number)) }
         ensures answer { (config : Config) (list : List Event) → self.old.screen ≡ state config list →
             IfOk result (λ update. bytes_given update ≡ (answer_to config list (Event.Cut number)).bytes) }
+        ensures recorded { (config : Config) (list : List Event) → self.old.screen ≡ state config list →
+            OnOk result (RecordsMore config list (Event.Cut number ∷ []) self.old.scribed self.new.scribed) }
         ensures refused { Refuses result (absence (viewer_at self.old.screen number)) }
-        ensures same { self.new ≡ record self.old { screen = self.new.screen } }
+        ensures same { self.new ≡ record self.old { screen = self.new.screen; scribed = self.new.scribed } }
         ensures some { IfOk result (λ update. IfSome update (λ bytes. bytes ≢ [])) }
         ensures err { OnErr result (self.new ≡ self.old) }
     {
-        self.screen.cut(number)
-    }
-
-    /// Records that an update was cut, where the session is recorded.
-    pub(crate) fn record_cut(&mut self, number: u64)
-        ensures puts { PutsWhere (event_line (Event.Cut number)) self.old.scribed self.new.scribed }
-        ensures same { self.new ≡ record self.old { scribed = self.new.scribed } }
-    {
+        let Some(update) = self.screen.cut(number)? else {
+            return Ok(None);
+        };
         self.recorder.cut(number);
+        Ok(Some(update))
     }
 
     /// Closes a viewer, as `Screen::close` does, and records it.
@@ -448,5 +285,13 @@ impl Canvas {
         self.screen.close(number)?;
         self.recorder.closed(number);
         Ok(())
+    }
+}
+
+impl Draw for Canvas {
+    ghost draws = { IsDrawnOn };
+
+    fn draw(&mut self, drawing: &Drawing<'_>) -> Result<(), ScreenError> {
+        self.draw(drawing)
     }
 }

@@ -74,7 +74,6 @@ fn hear<T: Transport, A: Application>(
         return Ok(());
     };
     let inputs = answer.inputs.as_slice();
-    canvas.record_heard(viewer, piece);
     connection.count_piece(piece);
     connection.give(answer.bytes.as_slice(), answer.closed);
     tell(canvas, connection, inputs, full_requests, application)
@@ -247,7 +246,6 @@ fn cut<T: Transport>(canvas: &mut Canvas, connection: &mut Connection<T>) -> boo
     held_as_alone();
     match canvas.cut(viewer) {
         Ok(Some(update)) => {
-            canvas.record_cut(viewer);
             connection.start(update, canvas.is_asking(viewer));
             true
         }

@@ -18,7 +18,7 @@ ghost use Rattle.event_loop.specs.Sockets.{sockets_and, GoesOnServing, GoesOnSer
 
 use crate::endings::{print_ends, print_judgement, sort_receipts, written_out};
 use crate::serve::{Easel, ServeOptions, Stroke, WHITE, config_of, easel_of, print_refusal};
-use event_loop::{Application, Canvas, EventLoop, Limits, LoopError, RecordWriter, WhenFull};
+use event_loop::{Application, Canvas, Draw, EventLoop, Limits, LoopError, RecordWriter, WhenFull};
 use messages::Input;
 use mio::net::TcpListener;
 use mirror::BrowserListener;

@@ -17,7 +17,7 @@ use crate::self_test::{
     print_shows, spawn_all, status_of,
 };
 use crate::watching::shut_all;
-use event_loop::{Application, Canvas, EventLoop, Limits, WhenFull};
+use event_loop::{Application, Canvas, Draw, EventLoop, Limits, WhenFull};
 use messages::Input;
 use mio::net::TcpListener;
 use play_script::trouble::{Trouble, report};

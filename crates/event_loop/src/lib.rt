@@ -26,7 +26,7 @@ mod turns;
 mod viewers;
 
 pub use connections::{
-    Application, Canvas, Config, Ended, Fault, History, Input, Listed, PrivateFile, Readiness,
+    Application, Canvas, Config, Draw, Ended, Fault, History, Input, Listed, PrivateFile, Readiness,
     Receipt, RecordWriter, Rect, Region, Screen, ScreenError, drawn_is_served,
 };
 pub use event_loop::{EventLoop, LoopError};

@@ -6,7 +6,7 @@
 ghost use Rattle.connections.specs.Drawing.{Draws};
 
 use event_loop::{
-    Application, Canvas, Config, EventLoop, History, Input, Limits, Listed, LoopError, Receipt,
+    Application, Canvas, Config, Draw, EventLoop, History, Input, Limits, Listed, LoopError, Receipt,
     Rect, ScreenError,
 };
 use mio::Waker;

@@ -3,7 +3,7 @@
 #![tactic(auto)]
 
 use event_loop::{
-    Application, Canvas, Config, EventLoop, History, Input, Limits, Listed, LoopError, Receipt,
+    Application, Canvas, Config, Draw, EventLoop, History, Input, Limits, Listed, LoopError, Receipt,
     Rect, ScreenError,
 };
 use mio::net::TcpListener;

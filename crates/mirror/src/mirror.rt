@@ -10,7 +10,7 @@ ghost use Rattle.mirror.specs.declared.source.Source.{Source};
 
 use crate::ends::{SourceEnd, Text, left_line};
 use crate::source::{Desktop, Opened, Source};
-use connections::{Application, Canvas, Input, Readiness, Receipt, ScreenError};
+use connections::{Application, Canvas, Draw, Input, Readiness, Receipt, ScreenError};
 use screen::size_refusal;
 use std::alloc::{AllocError, Global};
 use std::io::{Read, Write};

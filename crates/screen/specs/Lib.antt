@@ -1,6 +1,7 @@
 pub mod State
 pub mod Taken
 pub mod Happening
+pub mod Drawn
 pub mod HappeningLemmas
 pub mod Paints
 pub mod Takes

@@ -25,6 +25,7 @@
 //! A program that draws through another type than `Screen` asks for the `differences`, and paints each piece in the `rect_of` it.
 #![tactic(auto)]
 
+mod draw;
 mod kept_events;
 mod painting;
 mod part;
@@ -33,6 +34,7 @@ mod screen;
 mod taking;
 mod witness;
 
+pub use draw::Draw;
 pub use kept_events::{event_in, list_for};
 pub use listed::Listed;
 pub use messages::{Fault, Input};

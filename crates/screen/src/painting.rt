@@ -12,6 +12,7 @@ ghost use Rattle.screen.specs.Happening.{AllHappen};
 ghost use Rattle.screen.specs.Paints.{paint_of, PaintsTold};
 
 use crate::Screen;
+use crate::draw::Draw;
 use crate::witness::Witness;
 use region::Rect;
 use scene::ScreenError;

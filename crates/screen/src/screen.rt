@@ -17,11 +17,12 @@ ghost use Rattle.scene.specs.Refusals.{absence, presence, Refuses};
 ghost use Rattle.viewer.specs.Given.{bytes_given};
 ghost use Rattle.screen.specs.State.{state, viewer_at, refusal};
 ghost use Rattle.screen.specs.Happening.{AllHappen};
+ghost use Rattle.screen.specs.Drawn.{IsDrawn};
 
+use crate::draw::Draw;
 use crate::kept_events::{KeptEvents, has_happened};
 use listed::Listed;
 use messages::Fault;
-use region::{Rect, Region};
 use scene::{
     Answer, Config, Drawing, Event, Scene, ScreenError, accepted_happens_again, accepted_is_enough,
     refusals_are_due,
@@ -204,7 +205,7 @@ impl Screen {
         self.scene.full_requests(number)
     }
 
-    /// Does a drawing call: one of the calls below, as a value. Refuses what that call refuses.
+    /// Does a drawing call, one of those of `Draw`, as a value. Refuses what that call refuses.
     pub fn draw(&mut self, drawing: &Drawing<'_>) -> Result<(), ScreenError>
         ensures step { (config : Config) (list : List Event) → self.old ≡ state config list →
             OnOk result (self.new ≡ state config (list ++ event_of drawing.now ∷ [])) }
@@ -223,186 +224,6 @@ impl Screen {
         self.scene.draw(drawing)?;
         self.events.push(event);
         Ok(())
-    }
-
-    /// Replaces the colours of `rect` by `colours`, `0x00RRGGBB` row by row, whose top bytes it clears, and owes the rectangle to every
-    /// viewer. Refuses it as `BadRect` unless 0 <= x1 <= x2 <= width and 0 <= y1 <= y2 <= height, then as `BadPixelCount` unless there
-    /// are as many colours as places.
-    pub fn paint(&mut self, rect: Rect, colours: &[u32]) -> Result<(), ScreenError>
-        ensures step { (config : Config) (list : List Event) → self.old ≡ state config list →
-            OnOk result (self.new ≡ state config (list ++ Event.Paint rect colours.now ∷ [])) }
-        ensures happened { (config : Config) (list : List Event) → self.old ≡ state config list → OnOk result (AllHappen config list (Event.Paint rect colours.now ∷ [])) }
-        ensures answer { (config : Config) (list : List Event) → self.old ≡ state config list →
-            Tells (λ _. nothing_to_say) result (answer_to config list (Event.Paint rect colours.now)) }
-        ensures refused { Refuses result (refusal self.old (Event.Paint rect colours.now)) }
-        ensures err { OnErr result (self.new ≡ self.old) }
-    {
-        self.draw(&Drawing::Paint { rect, colours })
-    }
-
-    /// Replaces the colours of `rect` by `colours`, `0x00RRGGBB` row by row, whose top bytes it clears, and tells no viewer: `mark_rect`
-    /// and `mark_region` do. Refuses what `paint` refuses.
-    pub fn write_pixels(&mut self, rect: Rect, colours: &[u32]) -> Result<(), ScreenError>
-        ensures step { (config : Config) (list : List Event) → self.old ≡ state config list →
-            OnOk result (self.new ≡ state config (list ++ Event.Write rect colours.now ∷ [])) }
-        ensures answer { (config : Config) (list : List Event) → self.old ≡ state config list →
-            Tells (λ _. nothing_to_say) result (answer_to config list (Event.Write rect colours.now)) }
-        ensures refused { Refuses result (refusal self.old (Event.Write rect colours.now)) }
-        ensures err { OnErr result (self.new ≡ self.old) }
-    {
-        self.draw(&Drawing::Write { rect, colours })
-    }
-
-    /// Owes the places of a rectangle that are on the screen to every viewer (`rfbMarkRectAsModified` of `rfb.h`). Swaps corners in the
-    /// wrong order. Refuses it as `OutOfMemory` alone.
-    pub fn mark_rect(&mut self, x1: i32, y1: i32, x2: i32, y2: i32) -> Result<(), ScreenError>
-        ensures step { (config : Config) (list : List Event) → self.old ≡ state config list →
-            OnOk result (self.new ≡ state config (list ++ Event.Mark (record { x1 = x1; y1 = y1; x2 = x2; y2 = y2 } ∷ []) ∷ [])) }
-        ensures answer { (config : Config) (list : List Event) → self.old ≡ state config list →
-            Tells (λ _. nothing_to_say) result
-            (answer_to config list (Event.Mark (record { x1 = x1; y1 = y1; x2 = x2; y2 = y2 } ∷ []))) }
-        ensures refused { IsOkUnless result ScreenError.OutOfMemory }
-        ensures err { OnErr result (self.new ≡ self.old) }
-    {
-        self.draw(&Drawing::MarkRect(Rect { x1, y1, x2, y2 }))
-    }
-
-    /// Owes the places of a region that are on the screen to every viewer (`rfbMarkRegionAsModified` of `rfb.h`). Refuses it as
-    /// `OutOfMemory` alone.
-    pub fn mark_region(&mut self, region: &Region) -> Result<(), ScreenError>
-        ensures step { (config : Config) (list : List Event) → self.old ≡ state config list →
-            OnOk result (self.new ≡ state config (list ++ Event.Mark region.now.list ∷ [])) }
-        ensures answer { (config : Config) (list : List Event) → self.old ≡ state config list →
-            Tells (λ _. nothing_to_say) result (answer_to config list (Event.Mark region.now.list)) }
-        ensures refused { IsOkUnless result ScreenError.OutOfMemory }
-        ensures err { OnErr result (self.new ≡ self.old) }
-    {
-        self.draw(&Drawing::MarkRegion(region))
-    }
-
-    /// Tells every viewer that the places of a rectangle that are on the screen with their sources get the colours of the places (dx, dy)
-    /// before them (`rfbScheduleCopyRect` of `rfb.h`); the picture stays, since the application moves them itself. A viewer that uses
-    /// CopyRect may make the copy on its own side.
-    ///
-    /// Swaps corners in the wrong order; corners and offsets are any `i32`. A copy by (0, 0), or of no place, does nothing. Refuses it as
-    /// `OutOfMemory` alone.
-    pub fn schedule_copy_rect(
-        &mut self,
-        x1: i32,
-        y1: i32,
-        x2: i32,
-        y2: i32,
-        dx: i32,
-        dy: i32,
-    ) -> Result<(), ScreenError>
-        ensures step { (config : Config) (list : List Event) → self.old ≡ state config list →
-            OnOk result (self.new ≡ state config
-            (list ++ Event.ScheduleCopy (record { x1 = x1; y1 = y1; x2 = x2; y2 = y2 } ∷ []) dx dy ∷ [])) }
-        ensures answer { (config : Config) (list : List Event) → self.old ≡ state config list →
-            Tells (λ _. nothing_to_say) result
-            (answer_to config list (Event.ScheduleCopy (record { x1 = x1; y1 = y1; x2 = x2; y2 = y2 } ∷ []) dx dy)) }
-        ensures refused { IsOkUnless result ScreenError.OutOfMemory }
-        ensures err { OnErr result (self.new ≡ self.old) }
-    {
-        let rect = Rect { x1, y1, x2, y2 };
-        self.draw(&Drawing::ScheduleCopyRect { rect, dx, dy })
-    }
-
-    /// Does what `schedule_copy_rect` does for the places of a region (`rfbScheduleCopyRegion` of `rfb.h`).
-    pub fn schedule_copy_region(
-        &mut self,
-        region: &Region,
-        dx: i32,
-        dy: i32,
-    ) -> Result<(), ScreenError>
-        ensures step { (config : Config) (list : List Event) → self.old ≡ state config list →
-            OnOk result (self.new ≡ state config (list ++ Event.ScheduleCopy region.now.list dx dy ∷ [])) }
-        ensures answer { (config : Config) (list : List Event) → self.old ≡ state config list →
-            Tells (λ _. nothing_to_say) result (answer_to config list (Event.ScheduleCopy region.now.list dx dy)) }
-        ensures refused { IsOkUnless result ScreenError.OutOfMemory }
-        ensures err { OnErr result (self.new ≡ self.old) }
-    {
-        self.draw(&Drawing::ScheduleCopyRegion { region, dx, dy })
-    }
-
-    /// Gives the places of a rectangle that are on the screen with their sources the colours that the places (dx, dy) before them had,
-    /// all at once, and tells every viewer (`rfbDoCopyRect` of `rfb.h`). A viewer that uses CopyRect may make the copy on its own side.
-    ///
-    /// Swaps corners in the wrong order; corners and offsets are any `i32`. A copy by (0, 0), or of no place, does nothing. Refuses it as
-    /// `OutOfMemory` alone.
-    pub fn do_copy_rect(
-        &mut self,
-        x1: i32,
-        y1: i32,
-        x2: i32,
-        y2: i32,
-        dx: i32,
-        dy: i32,
-    ) -> Result<(), ScreenError>
-        ensures step { (config : Config) (list : List Event) → self.old ≡ state config list →
-            OnOk result (self.new ≡ state config
-            (list ++ Event.DoCopy (record { x1 = x1; y1 = y1; x2 = x2; y2 = y2 } ∷ []) dx dy ∷ [])) }
-        ensures answer { (config : Config) (list : List Event) → self.old ≡ state config list →
-            Tells (λ _. nothing_to_say) result
-            (answer_to config list (Event.DoCopy (record { x1 = x1; y1 = y1; x2 = x2; y2 = y2 } ∷ []) dx dy)) }
-        ensures refused { IsOkUnless result ScreenError.OutOfMemory }
-        ensures err { OnErr result (self.new ≡ self.old) }
-    {
-        let rect = Rect { x1, y1, x2, y2 };
-        self.draw(&Drawing::DoCopyRect { rect, dx, dy })
-    }
-
-    /// Does what `do_copy_rect` does for the places of a region (`rfbDoCopyRegion` of `rfb.h`).
-    pub fn do_copy_region(&mut self, region: &Region, dx: i32, dy: i32) -> Result<(), ScreenError>
-        ensures step { (config : Config) (list : List Event) → self.old ≡ state config list →
-            OnOk result (self.new ≡ state config (list ++ Event.DoCopy region.now.list dx dy ∷ [])) }
-        ensures answer { (config : Config) (list : List Event) → self.old ≡ state config list →
-            Tells (λ _. nothing_to_say) result (answer_to config list (Event.DoCopy region.now.list dx dy)) }
-        ensures refused { IsOkUnless result ScreenError.OutOfMemory }
-        ensures err { OnErr result (self.new ≡ self.old) }
-    {
-        self.draw(&Drawing::DoCopyRegion { region, dx, dy })
-    }
-
-    /// Keeps a bell for every open viewer for which fewer than 64 notices wait (`rfbSendBell` of `rfb.h`). Refuses it as `OutOfMemory`
-    /// alone.
-    pub fn bell(&mut self) -> Result<(), ScreenError>
-        ensures step { (config : Config) (list : List Event) → self.old ≡ state config list →
-            OnOk result (self.new ≡ state config (list ++ Event.Bell ∷ [])) }
-        ensures answer { (config : Config) (list : List Event) → self.old ≡ state config list →
-            Tells (λ _. nothing_to_say) result (answer_to config list (Event.Bell)) }
-        ensures refused { IsOkUnless result ScreenError.OutOfMemory }
-        ensures err { OnErr result (self.new ≡ self.old) }
-    {
-        self.draw(&Drawing::Bell)
-    }
-
-    /// Keeps a text for every open viewer for which fewer than 64 notices wait (`rfbSendServerCutText` of `rfb.h`). Refuses more than
-    /// 65,536 bytes as `TextTooLong`.
-    pub fn cut_text(&mut self, text: &[u8]) -> Result<(), ScreenError>
-        ensures step { (config : Config) (list : List Event) → self.old ≡ state config list →
-            OnOk result (self.new ≡ state config (list ++ Event.CutText text.now ∷ [])) }
-        ensures answer { (config : Config) (list : List Event) → self.old ≡ state config list →
-            Tells (λ _. nothing_to_say) result (answer_to config list (Event.CutText text.now)) }
-        ensures refused { Refuses result (refusal self.old (Event.CutText text.now)) }
-        ensures err { OnErr result (self.new ≡ self.old) }
-    {
-        self.draw(&Drawing::CutText(text))
-    }
-
-    /// Replaces the framebuffer by one of `width` columns and `height` rows that is 0 everywhere (`rfbNewFramebuffer` of `rfb.h`), and
-    /// owes every place to every viewer. A viewer that lists DesktopSize learns the size before anything else of the screen, where it
-    /// asks; any other sees as much of the screen as its own size holds. Refuses a size as `BadSize` unless each is 1 to 8192, with at
-    /// most 2^24 places.
-    pub fn new_framebuffer(&mut self, width: u32, height: u32) -> Result<(), ScreenError>
-        ensures step { (config : Config) (list : List Event) → self.old ≡ state config list →
-            OnOk result (self.new ≡ state config (list ++ Event.Resize width height ∷ [])) }
-        ensures answer { (config : Config) (list : List Event) → self.old ≡ state config list →
-            Tells (λ _. nothing_to_say) result (answer_to config list (Event.Resize width height)) }
-        ensures refused { Refuses result (refusal self.old (Event.Resize width height)) }
-        ensures err { OnErr result (self.new ≡ self.old) }
-    {
-        self.draw(&Drawing::NewFramebuffer { width, height })
     }
 
     /// Connects a viewer, and returns the server's version for it (RFC 6143, 7.1.1). Refuses a number that a live viewer has as
@@ -522,5 +343,13 @@ impl Screen {
         }
         self.events.push(copy);
         Ok(answer)
+    }
+}
+
+impl Draw for Screen {
+    ghost draws = { IsDrawn };
+
+    fn draw(&mut self, drawing: &Drawing<'_>) -> Result<(), ScreenError> {
+        self.draw(drawing)
     }
 }

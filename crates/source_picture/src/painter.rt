@@ -16,7 +16,7 @@ ghost use Rattle.source_picture.specs.Texts.{with_bytes, text_after};
 
 use crate::band::{Band, STRIDE};
 use crate::text::Text;
-use connections::{Canvas, ScreenError};
+use connections::{Canvas, Draw, ScreenError};
 use server_reader::{Area, Step};
 use source_pixels::{PixelSource, SourceFormat, TrueColour};
 use std::alloc::Global;

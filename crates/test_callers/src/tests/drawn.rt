@@ -1,6 +1,6 @@
 use listed::Listed;
 use region::{Rect, Region, RegionError};
-use screen::{Config, History, Screen, ScreenError};
+use screen::{Config, Draw, History, Screen, ScreenError};
 use std::alloc::Global;
 use std::test::Fail;
 

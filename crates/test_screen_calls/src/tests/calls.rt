@@ -4,7 +4,7 @@
 use crate::tests::copies::{COPYING, Copying, copy};
 use crate::tests::screens::{new_screen, rect, region, request, say, sent, show};
 use region::Rect;
-use screen::{Screen, ScreenError, Update};
+use screen::{Draw, Screen, ScreenError, Update};
 use std::alloc::{AllocError, Global};
 use std::process::Abort;
 use std::test::Fail;

@@ -2,7 +2,7 @@
 
 use super::screens::region;
 use region::Rect;
-use screen::{Screen, ScreenError};
+use screen::{Draw, Screen, ScreenError};
 use std::alloc::Global;
 
 /// The calls that copy.

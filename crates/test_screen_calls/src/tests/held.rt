@@ -1,7 +1,7 @@
 //! What a screen holds, as it can be read, and the text of a refusal.
 
 use crate::tests::screens::{new_screen, rect, say};
-use screen::{Fault, Screen, ScreenError};
+use screen::{Draw, Fault, Screen, ScreenError};
 use std::test::Fail;
 
 /// Paints a place, and sends what is no version as viewer 5.

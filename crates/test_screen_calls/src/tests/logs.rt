@@ -2,7 +2,7 @@
 //! none is left where no viewer lacks one.
 
 use crate::tests::screens::{new_screen, open, rect, region, request, say, show};
-use screen::{Screen, ScreenError};
+use screen::{Draw, Screen, ScreenError};
 use std::alloc::Global;
 use std::process::Abort;
 use std::test::Fail;

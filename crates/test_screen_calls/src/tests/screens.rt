@@ -2,7 +2,7 @@
 
 use listed::Listed;
 use region::{Rect, Region, RegionError};
-use screen::{Config, History, Screen, ScreenError};
+use screen::{Config, Draw, History, Screen, ScreenError};
 use std::alloc::Global;
 
 /// The version 3.8, the choice of no security, and a ClientInit.

@@ -5,7 +5,7 @@ use Rattle.viewer.specs.Given.{bytes_given}
 use Rattle.connection.specs.Known.{Known}
 use Rattle.connections.specs.Drawing.{Surface}
 use Rattle.connection.specs.Connection.{ViewerConnection}
-use Rattle.connections.proofs.Recorded.{cut-more, cut-happens, uncut-more, uncut-happens}
+use Rattle.connections.proofs.Recorded.{cut-happens, uncut-happens}
 use Rattle.connections.proofs.Turns.{turn-cut, turn-uncut, turn-ended}
 use Rattle.connections.proofs.turn.cut.Goals as goal
 
@@ -13,14 +13,10 @@ pub returns-in-Ok-Some-clause-turn : goal.returns-in-Ok-Some-clause-turn
 returns-in-Ok-Some-clause-turn g c =
     let a = c.args.canvas.now in
     let b = c.cut.new.self in
-    let d = c.record_cut.new.self in
-    let screen : d.screen ≡ b.screen = ap (λ (x : Surface). x.screen) c.record_cut.ensures.same in
-    turn-cut c.held_as_alone.ensures a d c.args.connection.now c.start.new.self c.number-viewer.result c.in-Ok-Some.update c.number-viewer.ensures (λ config list h. screen ∙ c.in-Ok-Some.ensures.step config list h)
-    (λ config list h. cut-more config list _ _ _ a b d c.in-Ok-Some.field-0-is c.in-Ok-Some.ensures.some (c.in-Ok-Some.ensures.told config list h) (ap (λ (x : Surface). x.scribed) c.cut.ensures.same) c.record_cut.ensures.puts)
+    turn-cut c.held_as_alone.ensures a b c.args.connection.now c.start.new.self c.number-viewer.result c.in-Ok-Some.update c.number-viewer.ensures c.in-Ok-Some.ensures.step c.in-Ok-Some.ensures.recorded
     (λ config list h. cut-happens config list _ _ _ c.in-Ok-Some.field-0-is c.in-Ok-Some.ensures.some (c.in-Ok-Some.ensures.told config list h))
     (λ config list h. ap bytes_given (sym c.in-Ok-Some.field-0-is) ∙ c.in-Ok-Some.ensures.answer config list h) c.start.ensures.same (c.start.ensures.bytes ∙ ap (λ l. l ++ c.in-Ok-Some.update) (sym c.requires)) (λ few. c.start.ensures.few)
-    (ap (λ (x : Surface). x.drawn) c.record_cut.ensures.same ∙ ap (λ (x : Surface). x.drawn) c.cut.ensures.same)
-    (ap (λ (x : Surface). x.noticed) c.record_cut.ensures.same ∙ ap (λ (x : Surface). x.noticed) c.cut.ensures.same) (ap (λ (k : Known). k.may_cut) c.start.ensures.known ∙ c.is_asking.ensures)
+    (ap (λ (x : Surface). x.drawn) c.cut.ensures.same) (ap (λ (x : Surface). x.noticed) c.cut.ensures.same) (ap (λ (k : Known). k.may_cut) c.start.ensures.known ∙ c.is_asking.ensures)
     (ap (λ (k : Known). k.may_ask) c.start.ensures.known ∙ ap (λ b. c.args.connection.now.known.may_ask && b) c.is_asking.ensures)
 
 pub returns-in-Ok-None-clause-turn : goal.returns-in-Ok-None-clause-turn
@@ -28,8 +24,7 @@ returns-in-Ok-None-clause-turn g c =
     let e = c.args.connection.now in
     let a = c.args.canvas.now in
     let b = c.cut.new.self in
-    turn-uncut a b e c.look.new.self c.number-viewer.result c.number-viewer.ensures c.in-Ok-None.ensures.step
-    (λ config list h. uncut-more config list _ _ a b c.in-Ok-None.field-0-is (c.in-Ok-None.ensures.told config list h) (ap (λ (x : Surface). x.scribed) c.cut.ensures.same))
+    turn-uncut a b e c.look.new.self c.number-viewer.result c.number-viewer.ensures c.in-Ok-None.ensures.step c.in-Ok-None.ensures.recorded
     (λ config list h. uncut-happens config list _ _ c.in-Ok-None.field-0-is (c.in-Ok-None.ensures.told config list h))
     (λ config list h. ap bytes_given (sym c.in-Ok-None.field-0-is) ∙ c.in-Ok-None.ensures.answer config list h)
     (c.look.ensures ∙ ap (λ (k : Known). record e { known = k }) (sym (ap (λ (x : ViewerConnection). x.known) c.look.ensures)))

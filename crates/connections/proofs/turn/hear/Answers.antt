@@ -13,7 +13,7 @@ use Rattle.screen.specs.Answers.{answer_to}
 use Rattle.screen.specs.declared.Event.TheVariants.{Hear}
 use Rattle.connection.specs.Counting.{with_piece}
 use Rattle.connection.specs.Reasons.{ended_by_fault}
-use Rattle.connections.proofs.Recorded.{heard-more, heard-happens}
+use Rattle.connections.proofs.Recorded.{heard-happens}
 use Rattle.connections.proofs.Turns.{turn-unheard, turn-heard, ended-memory, ended-fault}
 use Rattle.connections.proofs.turn.hear.Goals as goal
 
@@ -59,14 +59,10 @@ returns-clause-heard g c =
     ∙ ap (λ (x : ViewerConnection). with_piece c.args.piece.now x.counts) c.make_room.ensures.same in
     let a = c.args.canvas.now in
     let b = c.hear.new.self in
-    let d = c.record_heard.new.self in
     let n = c.number-viewer.result in
-    let screen : d.screen ≡ b.screen = ap (λ (x : Surface). x.screen) c.record_heard.ensures.same in
-    turn-heard g.A.Application.stands c.args.application.now c.tell.new.application c.tell.result inputs a d c.tell.new.canvas e f n c.args.piece.now bytes c.number-viewer.ensures
-    (ap (λ (x : Surface). x.drawn) c.record_heard.ensures.same ∙ ap (λ (x : Surface). x.drawn) c.hear.ensures.same)
-    (ap (λ (x : Surface). x.noticed) c.record_heard.ensures.same ∙ ap (λ (x : Surface). x.noticed) c.hear.ensures.same) (ap (λ (k : Known). k.may_cut) known) (ap (λ (k : Known). k.may_ask) known)
-    (λ config list h. screen ∙ c.in-Ok-hear.ensures.step config list h)
-    (λ config list h. heard-more config list _ _ _ a b d (c.in-Ok-hear.ensures.told config list h) (ap (λ (x : Surface). x.scribed) c.hear.ensures.same) c.record_heard.ensures.puts)
+    turn-heard g.A.Application.stands c.args.application.now c.tell.new.application c.tell.result inputs a b c.tell.new.canvas e f n c.args.piece.now bytes c.number-viewer.ensures
+    (ap (λ (x : Surface). x.drawn) c.hear.ensures.same) (ap (λ (x : Surface). x.noticed) c.hear.ensures.same) (ap (λ (k : Known). k.may_cut) known) (ap (λ (k : Known). k.may_ask) known)
+    c.in-Ok-hear.ensures.step c.in-Ok-hear.ensures.recorded
     (λ config list h. heard-happens config list _ _ _ (c.in-Ok-hear.ensures.told config list h))
     (λ config list h. c.as_slice.ensures ∙ c.in-Ok-hear.ensures.answer config list h) (λ config list h. c.as_slice-inputs.ensures ∙ c.in-Ok-hear.ensures.inputs config list h)
     number carried counts

@@ -4,7 +4,7 @@ use super::lists::Call::{self, Cut, DoCopy, Hear, Mark, Paint, ScheduleCopy, Wri
 use super::lists::{Row, rect_of};
 use crate::tests::screens::{region, screen_of};
 use region::{Rect, Region};
-use screen::{Event, History, Screen, ScreenError};
+use screen::{Draw, Event, History, Screen, ScreenError};
 use std::alloc::Global;
 use std::process::Abort;
 use std::test::Fail;

@@ -2,7 +2,7 @@
 
 use super::{expect_sent, hear_again};
 use crate::tests::screens::{new_screen, open, rect, request, say};
-use screen::{Screen, ScreenError};
+use screen::{Draw, Screen, ScreenError};
 use std::alloc::Global;
 use std::process::Abort;
 

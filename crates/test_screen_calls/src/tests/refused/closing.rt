@@ -1,7 +1,7 @@
 //! The closing of a viewer is never refused for memory: room for it among the events that are kept was made when the viewer connected.
 
 use crate::tests::screens::new_screen;
-use screen::Screen;
+use screen::{Draw, Screen};
 use std::process::Abort;
 use std::test::Fail;
 

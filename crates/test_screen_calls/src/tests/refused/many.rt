@@ -3,7 +3,7 @@
 
 use crate::tests::screens::{new_screen, open, rect, region, request, say};
 use region::Region;
-use screen::{Screen, ScreenError};
+use screen::{Draw, Screen, ScreenError};
 use std::alloc::Global;
 use std::process::Abort;
 use std::test::Fail;

@@ -3,7 +3,7 @@
 use super::{cut_again, expect_sent, hear_again};
 use crate::tests::screens::{OPENING, new_screen, rect, region, request, show};
 use region::Region;
-use screen::{Screen, ScreenError};
+use screen::{Draw, Screen, ScreenError};
 use std::alloc::Global;
 use std::process::Abort;
 

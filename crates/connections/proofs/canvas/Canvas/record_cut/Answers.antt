@@ -1,9 +1,0 @@
-use Rattle.std.proofs.Common.{subst}
-use Rattle.recorder.specs.Events.{event_line}
-use Rattle.screen.specs.declared.Event.TheVariants.{Cut}
-use Rattle.connections.specs.Drawing.{Surface}
-use Rattle.connections.specs.Recorded.{PutsWhere}
-use Rattle.connections.proofs.canvas.Canvas.record_cut.Goals as goal
-
-pub returns-clause-puts : goal.returns-clause-puts
-returns-clause-puts c = subst (λ (x : Surface). PutsWhere (event_line (Cut c.args.number)) x.scribed c.cut.new.self) c.self.view_is c.cut.ensures
