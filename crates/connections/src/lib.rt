@@ -30,6 +30,4 @@ pub use held_inputs::HeldInputs;
 pub use laws::drawn_is_served;
 pub use receipts::{Ended, Receipt};
 pub use record_writer::{PrivateFile, RecordWriter};
-pub use screen::{
-    Config, Draw, Fault, History, Input, Listed, Rect, Region, Screen, ScreenError,
-};
+pub use screen::{Config, Draw, Fault, History, Input, Listed, Rect, Region, Screen, ScreenError};

@@ -26,8 +26,8 @@ mod turns;
 mod viewers;
 
 pub use connections::{
-    Application, Canvas, Config, Draw, Ended, Fault, History, Input, Listed, PrivateFile, Readiness,
-    Receipt, RecordWriter, Rect, Region, Screen, ScreenError, drawn_is_served,
+    Application, Canvas, Config, Draw, Ended, Fault, History, Input, Listed, PrivateFile,
+    Readiness, Receipt, RecordWriter, Rect, Region, Screen, ScreenError, drawn_is_served,
 };
 pub use event_loop::{EventLoop, LoopError};
 pub use limits::{Limits, WhenFull};

@@ -6,8 +6,8 @@
 ghost use Rattle.connections.specs.Drawing.{Draws};
 
 use event_loop::{
-    Application, Canvas, Config, Draw, EventLoop, History, Input, Limits, Listed, LoopError, Receipt,
-    Rect, ScreenError,
+    Application, Canvas, Config, Draw, EventLoop, History, Input, Limits, Listed, LoopError,
+    Receipt, Rect, ScreenError,
 };
 use mio::Waker;
 use mio::net::TcpListener;

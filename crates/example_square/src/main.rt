@@ -3,8 +3,8 @@
 #![tactic(auto)]
 
 use event_loop::{
-    Application, Canvas, Config, Draw, EventLoop, History, Input, Limits, Listed, LoopError, Receipt,
-    Rect, ScreenError,
+    Application, Canvas, Config, Draw, EventLoop, History, Input, Limits, Listed, LoopError,
+    Receipt, Rect, ScreenError,
 };
 use mio::net::TcpListener;
 use std::net::{Ipv4Addr, SocketAddr};

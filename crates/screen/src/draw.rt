@@ -73,12 +73,7 @@ pub trait Draw {
     }
 
     /// Does what `schedule_copy_rect` does for the places of a region (`rfbScheduleCopyRegion` of `rfb.h`).
-    fn schedule_copy_region(
-        &mut self,
-        region: &Region,
-        dx: i32,
-        dy: i32,
-    ) -> Result<(), ScreenError>
+    fn schedule_copy_region(&mut self, region: &Region, dx: i32, dy: i32) -> Result<(), ScreenError>
         ensures { draws self.old (Event.ScheduleCopy region.now.list dx dy) result self.new }
     {
         self.draw(&Drawing::ScheduleCopyRegion { region, dx, dy })

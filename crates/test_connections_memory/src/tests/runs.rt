@@ -5,7 +5,8 @@
 use super::line::{Line, Talk, Then};
 use super::steps::{ALL, Counting, End, Parting, Step, holds, line, turns, whole};
 use connections::{
-    Both, Config, Connections, Departed, Draw, Ended, Fault, History, Listed, RecordWriter, ScreenError,
+    Both, Config, Connections, Departed, Draw, Ended, Fault, History, Listed, RecordWriter,
+    ScreenError,
 };
 use std::alloc::{AllocError, Global};
 use std::process::Abort;

@@ -4,7 +4,8 @@ ghost use Rattle.connections.specs.Drawing.{Draws};
 
 use super::line::{Line, Talk};
 use connections::{
-    Application, Canvas, Connections, Departed, Draw, Ended, Input, Readiness, Receipt, Rect, ScreenError,
+    Application, Canvas, Connections, Departed, Draw, Ended, Input, Readiness, Receipt, Rect,
+    ScreenError,
 };
 use std::alloc::{AllocError, Global};
 
