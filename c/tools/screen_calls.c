@@ -139,6 +139,30 @@ static int each_its_own(void)
     return 0;
 }
 
+/* The log that viewers share holds 256 entries; those before a further one are joined to one of marks, but where a copy is among them: a
+ * viewer that takes CopyRect (7.7.2) is sent the copy (7.6.1), and what was marked in Raw. */
+static int joins(void)
+{
+    static const char sent[] = "\0\0\0\x02\0\x01\0\0\0\x01\0\x01\0\0\0\x01\0\0\0\0\0\x03\0\0\0\x01\0\x01\0\0\0\0\x04\0\0\0";
+    static const uint32_t four[4] = {1, 2, 3, 4};
+    uint8_t room[64];
+    int i;
+    IS(vnc_screen_open(s, 4, 1, "demo", 50), 0);
+    IS(vnc_screen_paint(s, 0, 0, 4, 1, four, 4), 0);
+    IS(vnc_screen_connect(s, 7), 0);
+    IS(hears(s, 7, B(OPENING "\x02\0\0\x02\0\0\0\x01\0\0\0\0\x03\0\0\0\0\0\0\x04\0\x01")), 0);
+    IS(vnc_screen_output(s, 7, room, 64), 12 + 34);
+    IS(vnc_screen_cut(s, 7), 1);
+    IS(vnc_screen_output(s, 7, room, 64), 4 + 12 + 4 * 4);
+    IS(vnc_screen_do_copy_rect(s, 1, 0, 2, 1, 1, 0), 0);
+    for (i = 0; i < 300; i++) IS(vnc_screen_mark_rect(s, 3, 0, 4, 1), 0);
+    IS(hears(s, 7, B("\x03\x01\0\0\0\0\0\x04\0\x01")), 0);
+    IS(vnc_screen_cut(s, 7), 1);
+    IS(vnc_screen_output(s, 7, room, 64), 36);
+    HOLDS(memcmp(room, sent, 36) == 0);
+    return vnc_screen_close(s);
+}
+
 /* An update apart has the bytes that the screen gives, and stays as it was cut. */
 static int apart(void)
 {
@@ -402,6 +426,7 @@ int main(void)
     DO(answers());
     DO(pieces());
     DO(each_its_own());
+    DO(joins());
     DO(apart());
     DO(in_order());
     DO(meanwhile());

@@ -13,15 +13,43 @@ fn key(key: u32) -> Input {
     Input::Key { down: true, key }
 }
 
-/// Says whether `told` is the key `wanted` of `viewer`, going down.
-fn is_key(told: Option<&Told>, viewer: u64, wanted: u32) -> bool {
+/// Says whether `told` is the key `wanted` of `viewer`, going down or up.
+fn is_key(told: Option<&Told>, viewer: u64, goes_down: bool, wanted: u32) -> bool {
     match told {
         Some(told) => {
             told.viewer == viewer
-                && matches!(told.input, Input::Key { down: true, key } if key == wanted)
+                && matches!(told.input, Input::Key { down, key } if down == goes_down && key == wanted)
         }
         None => false,
     }
+}
+
+/// Says whether `told` is the pointer of `viewer` at (2, 3), with these buttons.
+fn is_pointer(told: Option<&Told>, viewer: u64, buttons: u8) -> bool {
+    match told {
+        Some(told) => {
+            told.viewer == viewer
+                && matches!(told.input, Input::Pointer { mask, x: 2, y: 3 } if mask == buttons)
+        }
+        None => false,
+    }
+}
+
+/// Puts an input, and says whether it was accepted.
+fn puts<R: Wait>(rt: &R, hub: &InputHub, seat: &mut InputSeat, input: Input) -> bool
+    requires { seat.old.queue ≡ hub.now.queue }
+    ensures { seat.new.queue ≡ seat.old.queue }
+{
+    hub.put(rt, seat, input).is_ok()
+}
+
+/// Puts the key `wanted`, and says whether it is given back.
+fn gives_back<R: Wait>(rt: &R, hub: &InputHub, seat: &mut InputSeat, wanted: u32) -> bool
+    requires { seat.old.queue ≡ hub.now.queue }
+    ensures { seat.new.queue ≡ seat.old.queue }
+{
+    let back = hub.put(rt, seat, key(wanted));
+    matches!(back, Err(Full(Input::Key { down: true, key })) if key == wanted)
 }
 
 // Checks that the taker takes the inputs of two seats in the order of their puts, that a full queue gives the input back, and that
@@ -32,27 +60,61 @@ fn inputs_come_in_the_order_of_the_puts(rt: HostRuntime) -> Result<(), Fail> {
     let mut one = hub.seat(1);
     let mut two = hub.seat(2);
     assert!(rt; take_next(&rt, &hub, &mut taker, false).is_none());
-    assert!(rt; hub.put(&rt, &mut one, key(1)).is_ok());
-    assert!(rt; hub.put(&rt, &mut two, key(2)).is_ok());
-    let back = hub.put(&rt, &mut one, key(3));
-    assert!(rt; matches!(back, Err(Full(Input::Key { down: true, key: 3 }))));
+    assert!(rt; puts(&rt, &hub, &mut one, key(1)) && puts(&rt, &hub, &mut two, key(2)));
+    assert!(rt; gives_back(&rt, &hub, &mut one, 3));
     let first = take_next(&rt, &hub, &mut taker, false);
     let second = take_next(&rt, &hub, &mut taker, false);
-    let third = take_next(&rt, &hub, &mut taker, false);
-    assert!(rt; is_key(first.as_ref(), 1, 1) && is_key(second.as_ref(), 2, 2) && third.is_none());
-    assert!(rt; hub.put(&rt, &mut two, key(4)).is_ok());
-    assert!(rt; hub.put(&rt, &mut one, key(5)).is_ok());
-    let mut seats = Vec::new(rt.alloc());
-    seats.push(one)?;
-    seats.push(two)?;
+    assert!(rt; is_key(first.as_ref(), 1, true, 1) && is_key(second.as_ref(), 2, true, 2));
+    assert!(rt; take_next(&rt, &hub, &mut taker, false).is_none());
+    assert!(rt; puts(&rt, &hub, &mut two, key(4)) && puts(&rt, &hub, &mut one, key(5)));
+    let seats = Vec::from_array(rt.alloc(), [one, two])
+        .ok()
+        .ok_or("no seats")?;
     let left = hub.join(&rt, taker, seats)?;
     let left = left.items.as_slice();
-    assert!(rt; left.len() == 2 && is_key(left.first(), 2, 4) && is_key(left.last(), 1, 5));
+    assert!(rt;
+        left.len() == 2 && is_key(left.first(), 2, true, 4) && is_key(left.last(), 1, true, 5)
+    );
     Ok(())
 }
 
-// Checks that `let_go` lets go what a viewer holds, as far as there is room, and then the rest: a key's release, and the pointer
-// where it was.
+/// Lets go what a viewer holds in a queue that is full, and says whether something is left of it each time that one input was taken:
+/// the key 1 that went down, and the pointer that was pressed.
+fn is_let_go_in_parts<R: Wait>(
+    rt: &R,
+    hub: &InputHub,
+    taker: &mut Taker,
+    seat: &mut InputSeat,
+) -> bool
+    requires taker { taker.old.queue ≡ hub.now.queue }
+    requires seat { seat.old.queue ≡ hub.now.queue }
+    ensures taker { taker.new.queue ≡ taker.old.queue }
+    ensures seat { seat.new.queue ≡ seat.old.queue }
+{
+    let at_first = hub.let_go(rt, seat);
+    let pressed = take_next(rt, hub, taker, false);
+    let then = hub.let_go(rt, seat);
+    let moved = take_next(rt, hub, taker, false);
+    !at_first && !then && is_key(pressed.as_ref(), 7, true, 1) && is_pointer(moved.as_ref(), 7, 5)
+}
+
+/// Lets go the rest, and says whether that is all: the key's release, and the pointer where it was.
+fn is_let_go<R: Wait>(rt: &R, hub: &InputHub, taker: &mut Taker, seat: &mut InputSeat) -> bool
+    requires taker { taker.old.queue ≡ hub.now.queue }
+    requires seat { seat.old.queue ≡ hub.now.queue }
+{
+    let is_all = hub.let_go(rt, seat);
+    let up = take_next(rt, hub, taker, false);
+    let free = take_next(rt, hub, taker, false);
+    let is_still_all = hub.let_go(rt, seat);
+    is_all
+        && is_still_all
+        && is_key(up.as_ref(), 7, false, 1)
+        && is_pointer(free.as_ref(), 7, 0)
+        && take_next(rt, hub, taker, false).is_none()
+}
+
+// Checks that `let_go` lets go what a viewer holds, as far as there is room, and then the rest.
 #[test]
 fn what_is_held_is_let_go(rt: HostRuntime) -> Result<(), Fail> {
     let (mut hub, mut taker) = InputHub::new(rt.alloc(), 2)?;
@@ -62,51 +124,32 @@ fn what_is_held_is_let_go(rt: HostRuntime) -> Result<(), Fail> {
         x: 2,
         y: 3,
     };
-    assert!(rt; hub.put(&rt, &mut seat, key(1)).is_ok());
-    assert!(rt; hub.put(&rt, &mut seat, pointer).is_ok());
-    assert!(rt; !hub.let_go(&rt, &mut seat));
-    assert!(rt; is_key(take_next(&rt, &hub, &mut taker, false).as_ref(), 7, 1));
-    assert!(rt; !hub.let_go(&rt, &mut seat));
-    let pressed = take_next(&rt, &hub, &mut taker, false);
-    assert!(rt;
-        matches!(
-            pressed,
-            Some(Told {
-                input: Input::Pointer { mask: 5, .. },
-                ..
-            })
-        )
-    );
-    assert!(rt; hub.let_go(&rt, &mut seat));
-    let up = take_next(&rt, &hub, &mut taker, false);
-    assert!(rt;
-        matches!(
-            up,
-            Some(Told {
-                viewer: 7,
-                input: Input::Key {
-                    down: false,
-                    key: 1
-                }
-            })
-        )
-    );
-    let free = take_next(&rt, &hub, &mut taker, false);
-    assert!(rt;
-        matches!(
-            free,
-            Some(Told {
-                viewer: 7,
-                input: Input::Pointer {
-                    mask: 0,
-                    x: 2,
-                    y: 3
-                }
-            })
-        )
-    );
-    assert!(rt; hub.let_go(&rt, &mut seat) && take_next(&rt, &hub, &mut taker, false).is_none());
+    assert!(rt; puts(&rt, &hub, &mut seat, key(1)) && puts(&rt, &hub, &mut seat, pointer));
+    assert!(rt; is_let_go_in_parts(&rt, &hub, &mut taker, &mut seat));
+    assert!(rt; is_let_go(&rt, &hub, &mut taker, &mut seat));
     Ok(())
+}
+
+/// Takes the next input, or finds that the taker was woken.
+fn take_or_woken<R: Wait>(rt: &R, hub: &InputHub, taker: &mut Taker) -> Result<Option<Told>, AtEnd>
+    requires { taker.old.queue ≡ hub.now.queue }
+    ensures { taker.new.queue ≡ taker.old.queue }
+{
+    hub.take_or_woken(rt, taker)
+}
+
+/// Says whether a taker that is woken takes the key 1, which was put before, then finds nothing, and is at the end of a closed hub.
+fn is_woken<R: Wait>(rt: &R, hub: &InputHub, taker: &mut Taker) -> bool
+    requires { taker.old.queue ≡ hub.now.queue }
+{
+    hub.wake();
+    let first = take_or_woken(rt, hub, taker);
+    let second = take_or_woken(rt, hub, taker);
+    hub.close();
+    let third = take_or_woken(rt, hub, taker);
+    matches!(&first, Ok(Some(told)) if is_key(Some(told), 7, true, 1))
+        && matches!(second, Ok(None))
+        && third.is_err()
 }
 
 // Checks that a taker that is woken finds nothing, after what was put before, and that a closed hub is at its end.
@@ -114,13 +157,8 @@ fn what_is_held_is_let_go(rt: HostRuntime) -> Result<(), Fail> {
 fn a_taker_is_woken(rt: HostRuntime) -> Result<(), Fail> {
     let (mut hub, mut taker) = InputHub::new(rt.alloc(), 2)?;
     let mut seat = hub.seat(7);
-    assert!(rt; hub.put(&rt, &mut seat, key(1)).is_ok());
-    hub.wake();
-    let first = hub.take_or_woken(&rt, &mut taker);
-    assert!(rt; matches!(&first, Ok(Some(told)) if is_key(Some(told), 7, 1)));
-    assert!(rt; matches!(hub.take_or_woken(&rt, &mut taker), Ok(None)));
-    hub.close();
-    assert!(rt; hub.take_or_woken(&rt, &mut taker).is_err());
+    assert!(rt; puts(&rt, &hub, &mut seat, key(1)));
+    assert!(rt; is_woken(&rt, &hub, &mut taker));
     Ok(())
 }
 
@@ -145,7 +183,7 @@ fn put_all<R: Wait>(rt: &R, hub: &InputHub, mut seat: InputSeat) -> (InputSeat, 
         if next >= 1000 {
             break;
         }
-        if hub.put(rt, &mut seat, key(next)).is_ok() {
+        if puts(rt, hub, &mut seat, key(next)) {
             next += 1;
         } else {
             thread::yield_now();
@@ -225,7 +263,7 @@ fn are_all(taken: &[Told]) -> bool {
     for told in taken {
         let [one, two] = next;
         let place = if told.viewer == 1 { one } else { two };
-        if told.viewer > 2 || !is_key(Some(told), told.viewer, place) {
+        if told.viewer > 2 || !is_key(Some(told), told.viewer, true, place) {
             return false;
         }
         next = if told.viewer == 1 {

@@ -56,7 +56,7 @@ fn bring_up(screen: &mut Screen) -> Result<(), ScreenError> {
 }
 
 /// Checks that no entry stands while there are no viewers, nor for calls that mark nothing; else one stands for each call, until
-/// all viewers have them.
+/// all viewers have them, or those that lack them leave.
 fn expect_entries(rt: &impl Abort, alloc: Global, screen: &mut Screen) -> Result<(), ScreenError> {
     mark_some(alloc, screen)?;
     expect_log(rt, screen, 0);
@@ -71,6 +71,24 @@ fn expect_entries(rt: &impl Abort, alloc: Global, screen: &mut Screen) -> Result
     expect_log(rt, screen, 0);
     screen.mark_rect(0, 0, 1, 1)?;
     expect_log(rt, screen, 1);
+    expect_none_left(rt, screen)
+}
+
+/// Opens a third viewer, which lacks nothing, and closes the others.
+fn replace_both(screen: &mut Screen) -> Result<(), ScreenError> {
+    open(screen, 3)?;
+    screen.close(1)?;
+    screen.close(2)
+}
+
+/// Checks that no entry stands once those have left that lacked it, nor behind a new size, which all are told.
+fn expect_none_left(rt: &impl Abort, screen: &mut Screen) -> Result<(), ScreenError> {
+    replace_both(screen)?;
+    expect_log(rt, screen, 0);
+    screen.mark_rect(0, 0, 1, 1)?;
+    expect_log(rt, screen, 1);
+    screen.new_framebuffer(4, 2)?;
+    expect_log(rt, screen, 0);
     Ok(())
 }
 
