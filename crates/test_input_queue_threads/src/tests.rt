@@ -52,6 +52,48 @@ fn gives_back<R: Wait>(rt: &R, hub: &InputHub, seat: &mut InputSeat, wanted: u32
     matches!(back, Err(Full(Input::Key { down: true, key })) if key == wanted)
 }
 
+/// Fills a queue for two inputs from both seats, and says whether it gives a third one back.
+fn fill<R: Wait>(rt: &R, hub: &InputHub, one: &mut InputSeat, two: &mut InputSeat) -> bool
+    requires one { one.old.queue ≡ hub.now.queue }
+    requires two { two.old.queue ≡ hub.now.queue }
+    ensures one { one.new.queue ≡ one.old.queue }
+    ensures two { two.new.queue ≡ two.old.queue }
+{
+    let first = puts(rt, hub, one, key(1));
+    let second = puts(rt, hub, two, key(2));
+    let is_back = gives_back(rt, hub, one, 3);
+    first && second && is_back
+}
+
+/// Takes the next input, and says whether it is the key `wanted` of `viewer`, going down.
+fn takes_key<R: Wait>(rt: &R, hub: &InputHub, taker: &mut Taker, viewer: u64, wanted: u32) -> bool
+    requires { taker.old.queue ≡ hub.now.queue }
+    ensures { taker.new.queue ≡ taker.old.queue }
+{
+    is_key(
+        take_next(rt, hub, taker, false).as_ref(),
+        viewer,
+        true,
+        wanted,
+    )
+}
+
+/// Takes both, and says whether they come in the order in which they were put, and nothing behind them.
+fn take_both<R: Wait>(rt: &R, hub: &InputHub, taker: &mut Taker) -> bool
+    requires { taker.old.queue ≡ hub.now.queue }
+    ensures { taker.new.queue ≡ taker.old.queue }
+{
+    let is_first = takes_key(rt, hub, taker, 1, 1);
+    let is_second = takes_key(rt, hub, taker, 2, 2);
+    let is_last = take_next(rt, hub, taker, false).is_none();
+    is_first && is_second && is_last
+}
+
+/// Says whether what is left are the keys 4 and 5, in this order.
+fn are_left(left: &[Told]) -> bool {
+    left.len() == 2 && is_key(left.first(), 2, true, 4) && is_key(left.last(), 1, true, 5)
+}
+
 // Checks that the taker takes the inputs of two seats in the order of their puts, that a full queue gives the input back, and that
 // what is left is there in order.
 #[test]
@@ -60,21 +102,15 @@ fn inputs_come_in_the_order_of_the_puts(rt: HostRuntime) -> Result<(), Fail> {
     let mut one = hub.seat(1);
     let mut two = hub.seat(2);
     assert!(rt; take_next(&rt, &hub, &mut taker, false).is_none());
-    assert!(rt; puts(&rt, &hub, &mut one, key(1)) && puts(&rt, &hub, &mut two, key(2)));
-    assert!(rt; gives_back(&rt, &hub, &mut one, 3));
-    let first = take_next(&rt, &hub, &mut taker, false);
-    let second = take_next(&rt, &hub, &mut taker, false);
-    assert!(rt; is_key(first.as_ref(), 1, true, 1) && is_key(second.as_ref(), 2, true, 2));
-    assert!(rt; take_next(&rt, &hub, &mut taker, false).is_none());
-    assert!(rt; puts(&rt, &hub, &mut two, key(4)) && puts(&rt, &hub, &mut one, key(5)));
+    assert!(rt; fill(&rt, &hub, &mut one, &mut two));
+    assert!(rt; take_both(&rt, &hub, &mut taker));
+    assert!(rt; puts(&rt, &hub, &mut two, key(4)));
+    assert!(rt; puts(&rt, &hub, &mut one, key(5)));
     let seats = Vec::from_array(rt.alloc(), [one, two])
         .ok()
         .ok_or("no seats")?;
     let left = hub.join(&rt, taker, seats)?;
-    let left = left.items.as_slice();
-    assert!(rt;
-        left.len() == 2 && is_key(left.first(), 2, true, 4) && is_key(left.last(), 1, true, 5)
-    );
+    assert!(rt; are_left(left.items.as_slice()));
     Ok(())
 }
 

@@ -2,6 +2,7 @@
 //! none is left where no viewer lacks one.
 
 use crate::tests::screens::{new_screen, open, rect, region, request, say, show};
+use region::Region;
 use screen::{Draw, Screen, ScreenError};
 use std::alloc::Global;
 use std::process::Abort;
@@ -34,16 +35,26 @@ fn mark_nothing(alloc: Global, screen: &mut Screen) -> Result<(), ScreenError> {
     screen.do_copy_region(&region(alloc, rect(3, 3, 3, 3))?, 1, 0)
 }
 
-/// Makes seven calls that mark a place, each of another kind.
-fn mark_some(alloc: Global, screen: &mut Screen) -> Result<(), ScreenError> {
-    let (one, two) = (rect(1, 1, 2, 2), rect(2, 1, 4, 3));
-    screen.paint(one, &[5])?;
+/// Makes four calls that mark a place by a rectangle, each of another kind.
+fn mark_by_rects(screen: &mut Screen) -> Result<(), ScreenError> {
+    screen.paint(rect(1, 1, 2, 2), &[5])?;
     screen.mark_rect(3, 2, 9, 9)?;
-    screen.mark_region(&region(alloc, two)?)?;
     screen.schedule_copy_rect(1, 0, 2, 1, 1, 0)?;
-    screen.schedule_copy_region(&region(alloc, two)?, 0, 1)?;
-    screen.do_copy_rect(0, 0, 9, 1, 1, 0)?;
-    screen.do_copy_region(&region(alloc, one)?, -1, 0)
+    screen.do_copy_rect(0, 0, 9, 1, 1, 0)
+}
+
+/// Makes three that do by a region.
+fn mark_by_regions(screen: &mut Screen, places: &Region) -> Result<(), ScreenError> {
+    screen.mark_region(places)?;
+    screen.schedule_copy_region(places, 0, 1)?;
+    screen.do_copy_region(places, 1, 0)
+}
+
+/// Makes all seven.
+fn mark_some(alloc: Global, screen: &mut Screen) -> Result<(), ScreenError> {
+    let places = region(alloc, rect(2, 1, 4, 3))?;
+    mark_by_rects(screen)?;
+    mark_by_regions(screen, &places)
 }
 
 /// Asks for what changed as each of both viewers, and cuts it.

@@ -2,9 +2,10 @@
 //! section 7.4.
 
 use crate::tests::screens::new_screen;
+use listed::Listed;
 use screen::{
-    BytesPerPixel, Component, PixelSource, Rect, Screen, ScreenError, SourceError, SourceFormat,
-    TrueColour, rect_of,
+    BytesPerPixel, Component, Differences, Event, Piece, PixelSource, Rect, Screen, ScreenError,
+    SourceError, SourceFormat, TrueColour, rect_of,
 };
 use std::alloc::{AllocError, Global};
 use std::test::Fail;
@@ -40,22 +41,33 @@ const BGR233: [(u16, u8); 3] = [(7, 0), (7, 3), (3, 6)];
 
 const RED_LOWEST: [(u16, u8); 3] = [(255, 0), (255, 8), (255, 16)];
 
-/// Takes in one row of two pixels at the place (1, 1), and returns how many places change, or None if they don't have these
-/// `colours` then.
+/// Takes in one row of two pixels at the place (1, 1), and returns how many places change.
+fn take_row(
+    alloc: Global,
+    screen: &mut Screen,
+    bytes: &[u8],
+    format: SourceFormat<'_>,
+) -> Result<usize, ScreenError> {
+    match PixelSource::new(bytes, bytes.len(), 2, 1, format) {
+        Ok(source) => screen.take(alloc, 1, 1, &source),
+        Err(_) => Err(ScreenError::BadPixelCount),
+    }
+}
+
+/// Returns the colours of the places (1, 1) and (2, 1).
+fn row_of(screen: &Screen) -> [Option<u32>; 2] {
+    [screen.colour(1, 1), screen.colour(2, 1)]
+}
+
+/// Takes in such a row of a new screen, and returns how many places change, and their colours then.
 fn takes(
     alloc: Global,
     bytes: &[u8],
     format: SourceFormat<'_>,
-    colours: [u32; 2],
-) -> Result<Option<usize>, ScreenError> {
+) -> Result<(usize, [Option<u32>; 2]), ScreenError> {
     let mut screen = new_screen(alloc, (4, 2))?;
-    let Ok(source) = PixelSource::new(bytes, bytes.len(), 2, 1, format) else {
-        return Ok(None);
-    };
-    let places = screen.take(alloc, 1, 1, &source)?;
-    let are_there = screen.colour(1, 1) == Some(colours[0])
-        && screen.colour(2, 1) == Some(colours[1]);
-    Ok(if are_there { Some(places) } else { None })
+    let places = take_row(alloc, &mut screen, bytes, format)?;
+    Ok((places, row_of(&screen)))
 }
 
 use BytesPerPixel::{Four, One, Three, Two};
@@ -119,8 +131,9 @@ fn pixels_of_each_format(rt: HostRuntime) -> Result<(), Fail> {
         (table, b"\x02\xff", [0, 0], 0),
     ];
     for (number, (format, bytes, colours, places)) in rows.iter().enumerate() {
-        let taken = takes(rt.alloc(), bytes, *format, *colours)?;
-        assert!(rt; taken == Some(*places), "row {number}");
+        let taken = takes(rt.alloc(), bytes, *format)?;
+        let wanted = (*places, [Some(colours[0]), Some(colours[1])]);
+        assert!(rt; taken == wanted, "row {number}");
     }
     Ok(())
 }
@@ -129,53 +142,80 @@ fn pixels_of_each_format(rt: HostRuntime) -> Result<(), Fail> {
 const BLUE_SQUARE: &[u8; 32] =
     b"\0\0\0\0\xff\0\0\0\xff\0\0\0\0\0\0\0\0\0\0\0\xff\0\0\0\xff\0\0\0\0\0\0\0";
 
+/// Returns the source of these pixels.
+fn blue_square() -> Result<PixelSource<'static>, SourceError> {
+    let format = SourceFormat::TrueColour(TrueColour::server());
+    PixelSource::new(BLUE_SQUARE, 16, 4, 2, format)
+}
+
+/// Returns whether a piece is those columns, in blue.
+fn is_blue(piece: &Piece) -> bool {
+    (piece.left, piece.top, piece.columns, piece.rows) == (1, 0, 2, 2)
+        && piece.colours.as_slice() == [0xff, 0xff, 0xff, 0xff].as_slice()
+}
+
+/// Returns whether this is all that differs.
+fn are_blue(found: &Differences) -> bool {
+    match found.pieces.as_slice() {
+        [piece] => found.places == 4 && is_blue(piece),
+        _ => false,
+    }
+}
+
 #[test]
 fn differences_are_one_rectangle(rt: HostRuntime) -> Result<(), Fail> {
     let screen = new_screen(rt.alloc(), (4, 2))?;
-    let format = SourceFormat::TrueColour(TrueColour::server());
-    let source = PixelSource::new(BLUE_SQUARE, 16, 4, 2, format)
-        .ok()
-        .ok_or("refused")?;
+    let source = blue_square().ok().ok_or("refused")?;
+    let found = screen.differences(rt.alloc(), 0, 0, &source)?;
+    assert!(rt; are_blue(&found));
+    Ok(())
+}
+
+#[test]
+fn a_piece_has_a_rectangle(rt: HostRuntime) {
+    let piece = Piece {
+        left: 1,
+        top: 0,
+        columns: 2,
+        rows: 2,
+        colours: Listed::new(rt.alloc()),
+    };
+    let rect = Rect {
+        x1: 4,
+        y1: 5,
+        x2: 6,
+        y2: 7,
+    };
+    assert!(rt; rect_of(3, 5, &piece) == rect);
+}
+
+#[test]
+fn a_source_has_colours(rt: HostRuntime) -> Result<(), Fail> {
+    let source = blue_square().ok().ok_or("refused")?;
     assert_eq!(rt; source.colour(2, 1), Some(0xff));
     assert_eq!(rt; source.colour(4, 1), None);
-    let found = screen.differences(rt.alloc(), 0, 0, &source)?;
-    assert_eq!(rt; found.places, 4);
-    assert_eq!(rt; found.pieces.len(), 1);
-    let Some(piece) = found.pieces.as_slice().first() else {
-        return Err("no piece".into());
-    };
-    assert_eq!(rt;
-        (piece.left, piece.top, piece.columns, piece.rows),
-        (1, 0, 2, 2)
-    );
-    assert_eq!(rt;
-        piece.colours.as_slice(),
-        [0xff, 0xff, 0xff, 0xff].as_slice()
-    );
-    let rect = Rect {
-        x1: 1,
-        y1: 0,
-        x2: 3,
-        y2: 2,
-    };
-    assert_eq!(rt; rect_of(0, 0, piece), rect);
     Ok(())
+}
+
+/// Takes the same pixels three times, the last time all off the screen, and returns how many places change each time.
+fn take_thrice(
+    alloc: Global,
+    screen: &mut Screen,
+    source: &PixelSource<'_>,
+) -> Result<[usize; 3], ScreenError> {
+    let first = screen.take(alloc, 2, 1, source)?;
+    let again = screen.take(alloc, 2, 1, source)?;
+    let outside = screen.take(alloc, u32::MAX, 0, source)?;
+    Ok([first, again, outside])
 }
 
 #[test]
 fn what_is_off_the_screen_is_left_out(rt: HostRuntime) -> Result<(), Fail> {
     let mut screen = new_screen(rt.alloc(), (4, 2))?;
-    let format = SourceFormat::TrueColour(TrueColour::server());
-    let source = PixelSource::new(BLUE_SQUARE, 16, 4, 2, format)
-        .ok()
-        .ok_or("refused")?;
-    assert_eq!(rt; screen.take(rt.alloc(), 2, 1, &source)?, 1);
-    assert_eq!(rt; screen.colour(3, 1), Some(0xff));
-    // the same again changes nothing, nor does a place off the screen
-    assert_eq!(rt; screen.take(rt.alloc(), 2, 1, &source)?, 0);
-    assert_eq!(rt; screen.take(rt.alloc(), u32::MAX, 0, &source)?, 0);
-    let events = screen.history().ok_or("not kept")?;
-    assert_eq!(rt; events.len(), 1);
+    let source = blue_square().ok().ok_or("refused")?;
+    let taken = take_thrice(rt.alloc(), &mut screen, &source)?;
+    let kept = screen.history().map(<[Event]>::len);
+    assert!(rt; taken == [1, 0, 0] && screen.colour(3, 1) == Some(0xff) && kept == Some(1));
     Ok(())
 }
 
@@ -201,8 +241,8 @@ const ROWS: u32 = 500;
 
 /// Returns the colour of the pixel (`x`, `y`) of that screen: those of 280 columns and 350 rows in its midst are not black.
 fn new_colour(x: u32, y: u32) -> u32 {
-    if 10 <= x && x < 290 && 100 <= y && y < 450 {
-        256 * x + y
+    if (10..290).contains(&x) && (100..450).contains(&y) {
+        x.wrapping_mul(256).wrapping_add(y)
     } else {
         0
     }
@@ -247,39 +287,56 @@ fn count_wrong(screen: &Screen, may_be_black: bool) -> usize {
     wrong
 }
 
+/// Returns the source of these pixels.
+fn large_source(bytes: &[u8]) -> Result<PixelSource<'_>, SourceError> {
+    let format = SourceFormat::TrueColour(TrueColour::server());
+    PixelSource::new(bytes, 1200, 300, 500, format)
+}
+
+/// Makes that screen, all black.
+fn large_screen(alloc: Global) -> Result<Screen, ScreenError> {
+    new_screen(alloc, (300, 500))
+}
+
 #[test]
 fn a_large_picture_is_taken_in_parts(rt: HostRuntime) -> Result<(), Fail> {
-    let mut screen = new_screen(rt.alloc(), (COLUMNS as u16, ROWS as u16))?;
+    let mut screen = large_screen(rt.alloc())?;
     let bytes = large_pixels(rt.alloc())?;
-    let format = SourceFormat::TrueColour(TrueColour::server());
-    let source = PixelSource::new(&bytes, 1200, 300, 500, format)
-        .ok()
-        .ok_or("refused")?;
-    assert_eq!(rt; screen.take(rt.alloc(), 0, 0, &source)?, count_new());
-    assert_eq!(rt; count_wrong(&screen, false), 0);
+    let source = large_source(&bytes).ok().ok_or("refused")?;
+    let taken = screen.take(rt.alloc(), 0, 0, &source)?;
+    assert!(rt; taken == count_new() && count_wrong(&screen, false) == 0);
     // of 54 rows at a time: 100 to 107, six times 54, and 432 to 449
-    let events = screen.history().ok_or("not kept")?;
-    assert_eq!(rt; events.len(), 8);
-    assert_eq!(rt; screen.take(rt.alloc(), 0, 0, &source)?, 0);
+    let kept = screen.history().map(<[Event]>::len);
+    assert!(rt; kept == Some(8) && screen.take(rt.alloc(), 0, 0, &source)? == 0);
     Ok(())
+}
+
+/// Takes a source once more where the first call was refused memory, and returns whether each place had its old colour or its new
+/// one in between, and has its new one then.
+fn is_taken_at_last(
+    alloc: Global,
+    screen: &mut Screen,
+    source: &PixelSource<'_>,
+) -> Result<bool, ScreenError> {
+    let first = screen.take(alloc, 0, 0, source);
+    let wrong = count_wrong(screen, true);
+    match first {
+        Ok(_) => {}
+        Err(ScreenError::OutOfMemory) => {
+            screen.take(alloc, 0, 0, source)?;
+        }
+        Err(error) => return Err(error),
+    }
+    Ok(wrong == 0 && count_wrong(screen, false) == 0)
 }
 
 /// Shows that a second call takes what is left where the first was refused memory. The last of this test's allocations are those of
 /// taking: `rt try --test --fail-alloc N` refuses the Nth.
 #[test]
 fn a_second_call_takes_the_rest(rt: HostRuntime) -> Result<(), Fail> {
-    let mut screen = new_screen(rt.alloc(), (COLUMNS as u16, ROWS as u16))?;
+    let mut screen = large_screen(rt.alloc())?;
     let bytes = large_pixels(rt.alloc())?;
-    let format = SourceFormat::TrueColour(TrueColour::server());
-    let source = PixelSource::new(&bytes, 1200, 300, 500, format)
-        .ok()
-        .ok_or("refused")?;
-    let first = screen.take(rt.alloc(), 0, 0, &source);
-    assert_eq!(rt; count_wrong(&screen, true), 0);
-    if let Err(error) = first {
-        assert_eq!(rt; error, ScreenError::OutOfMemory);
-        screen.take(rt.alloc(), 0, 0, &source)?;
-    }
-    assert_eq!(rt; count_wrong(&screen, false), 0);
+    let source = large_source(&bytes).ok().ok_or("refused")?;
+    assert!(rt; is_taken_at_last(rt.alloc(), &mut screen, &source)?);
     Ok(())
 }
