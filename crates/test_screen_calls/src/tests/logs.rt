@@ -85,9 +85,9 @@ fn expect_entries(rt: &impl Abort, alloc: Global, screen: &mut Screen) -> Result
     expect_none_left(rt, screen)
 }
 
-/// Opens a third viewer, which lacks nothing, and closes the others.
+/// Connects a third viewer, which lacks nothing, and closes the others.
 fn replace_both(screen: &mut Screen) -> Result<(), ScreenError> {
-    open(screen, 3)?;
+    screen.connect(3)?;
     screen.close(1)?;
     screen.close(2)
 }
