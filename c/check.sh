@@ -158,7 +158,7 @@ run() { # NAME PROGRAM HOW..: each example, as it is to be run
     case $* in *valgrind*) long=20 ;; esac # which is slow
     case $name in
     play) "$@" "$program" >"$room/played" && cmp "$room/played" "$here/../crates/vncdemo/stdout" ;;
-    edges | server_edges | rfb_edges | rfb_drive | screen_calls | server_calls | server_adopt | server_viewers | server_events | server_limits | server_record | server_web) says_ok "$name" "$@" "$program" ;;
+    edges | server_edges | rfb_edges | rfb_drive | screen_calls | screen_drawing | server_calls | server_adopt | server_viewers | server_events | server_limits | server_record | server_web) says_ok "$name" "$@" "$program" ;;
     serve) looked_at "640 by 480, . colours, demo" "$@" "$program" PORT 3 ;;
     threads) looked_at "640 by 480, [23] colours, threads" "$@" "$program" PORT 3 ;;
     clock) looked_at "172 by 44, 3 colours, clock" "$@" "$program" PORT 10 ;;
@@ -184,7 +184,7 @@ if ! { $CC $sanitize -o "$room/none" "$room/none.c" && "$room/none"; } 2>/dev/nu
     sanitize=
     left+=("sanitizers: not installed")
 fi
-for source in "$here"/examples/*.c "$here"/tools/{rfb_edges,rfb_drive,screen_calls,server_calls,server_adopt,server_viewers,server_events,server_limits,server_record,server_web}.c; do
+for source in "$here"/examples/*.c "$here"/tools/{rfb_edges,rfb_drive,screen_calls,screen_drawing,server_calls,server_adopt,server_viewers,server_events,server_limits,server_record,server_web}.c; do
     name=$(basename "$source" .c)
     for standard in c99 c11 c++17; do
         case $standard in c++*) have "${CXX:-c++}" || continue ;; esac
@@ -334,6 +334,12 @@ refused() { # PROGRAM FIRST LAST ARGUMENT..
     # shellcheck disable=SC2016
     seq "$first" "$last" | PRELOAD=$room/refuse.so xargs -P "$(nproc)" -I{} sh -c 'timeout 60 env FAIL_AT={} LD_PRELOAD="$PRELOAD" "$0" "$@" >/dev/null 2>&1 </dev/null; [ $? -lt 124 ] || { echo "refused: {}"; exit 1; }' "$room/$program" "$@"
 }
+# and where a program makes what is refused memory once more, whichever it is, it ends well
+right() { # PROGRAM
+    # shellcheck disable=SC2016
+    CALLS_TO=$room/allocations LD_PRELOAD=$room/refuse.so "$room/$1" && [ "$(tr -d '\0 ' <"$room/allocations")" -gt 1000 ] &&
+        seq 1 "$(tr -d '\0 ' <"$room/allocations")" | PRELOAD=$room/refuse.so xargs -P "$(nproc)" -I{} sh -c 'timeout 60 env FAIL_AT={} LD_PRELOAD="$PRELOAD" "$0" >/dev/null 2>&1 </dev/null || { echo "refused: {}"; exit 1; }' "$room/$1"
+}
 # shellcheck disable=SC2086
 if $CC -Wall -Wextra -Werror -shared -fPIC -o "$room/refuse.so" "$here/tools/refuse.c" -ldl; then
     for name in play edges server_edges rfb_edges screen_calls; do try "$name: each of its first 150 allocations is refused" refused "$name" 1 150; done
@@ -341,6 +347,7 @@ if $CC -Wall -Wextra -Werror -shared -fPIC -o "$room/refuse.so" "$here/tools/ref
     for name in rfb_drive server_calls server_adopt server_viewers server_events server_limits server_record server_web; do
         try "$name: each of its first 150 allocations is refused" refused "$name" 1 150 soon
     done
+    try "screen_drawing: each of its allocations is refused, and its answers stand" right screen_drawing
     for name in clock sketch own_pixels own_loop; do try "$name: each of its first 40 allocations is refused" refused "$name" 1 40 0 1; done
 else
     left+=("refused memory: no shared object")

@@ -1,6 +1,6 @@
 //! Where an allocation fails, whichever, the call is made again, and then it gives what it would have given: a call that was
-//! refused left the screen as it was. `named` has each call once, `marks` fills the log of drawing, and here are the calls that
-//! both make; their bytes are written out from RFC 6143. `many` has what must not be refused where there is memory.
+//! refused left the screen as it was. `alike` has viewers whose rectangles are encoded once, `marks` fills the log of drawing, and here
+//! are the calls that both make; their bytes are written out from RFC 6143. `closing` has what must not be refused.
 //!
 //! A function that owns a screen lends it to others: each place where it may end on its way would be one more to prove.
 
@@ -16,9 +16,7 @@ macro_rules! again {
 
 mod alike;
 mod closing;
-mod many;
 mod marks;
-mod named;
 
 use screen::{Answer, Screen, Update};
 use std::process::Abort;

@@ -73,11 +73,3 @@ pub fn show(screen: &mut Screen, size: (u16, u16), colours: &[u32]) -> Result<()
     screen.cut(1)?;
     Ok(())
 }
-
-/// Returns what a viewer is sent now, if anything.
-pub fn sent(screen: &mut Screen, viewer: u64) -> Result<Option<Vec<u8>>, ScreenError> {
-    match screen.cut(viewer)? {
-        Some(update) => Ok(Some(update.encode()?)),
-        None => Ok(None),
-    }
-}
