@@ -136,37 +136,23 @@ fn ends<L: Ledger, R: Wait>(
     half.ended == ended && written.is_empty()
 }
 
-/// Returns whether `told` is the input at place `at` of a key, a pointer and a text of `viewer`, or nothing from the place `count` on.
+/// Returns whether an input is the one at place `at` of a key, a pointer and a text.
+fn is_at(at: usize, input: &Input) -> bool {
+    match input {
+        Input::Key { down, key } => at == 0 && *down && *key == 0xff0d,
+        Input::Pointer { mask, x, y } => at == 1 && (*mask, *x, *y) == (1, 2, 1),
+        Input::Text { text, shortened } => at == 2
+            && !*shortened
+            && text.as_slice() == b"hi".as_slice(),
+    }
+}
+
+/// Returns whether `told` is the one at place `at` of `viewer`, or nothing from the place `count` on.
 fn is_due(at: usize, told: &Option<Told>, viewer: u64, count: usize) -> bool {
-    let Some(told) = told else {
-        return at >= count;
-    };
-    let is_right = match (at, &told.input) {
-        (
-            0,
-            Input::Key {
-                down: true,
-                key: 0xff0d,
-            },
-        )
-        | (
-            1,
-            Input::Pointer {
-                mask: 1,
-                x: 2,
-                y: 1,
-            },
-        ) => true,
-        (
-            2,
-            Input::Text {
-                text,
-                shortened: false,
-            },
-        ) => text.as_slice() == b"hi".as_slice(),
-        _ => false,
-    };
-    is_right && at < count && told.viewer == viewer
+    match told {
+        Some(told) => at < count && told.viewer == viewer && is_at(at, &told.input),
+        None => at >= count,
+    }
 }
 
 /// Takes inputs, and returns whether they are the first `count` of those, in order, and no other.
