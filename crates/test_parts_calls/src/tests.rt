@@ -19,6 +19,7 @@ macro_rules! rect {
 mod clients;
 mod encodings;
 mod hearing;
+mod lists;
 mod marks;
 mod pictures;
 mod regions;

@@ -1,9 +1,0 @@
-use mathlib.Core.List.{[], ◌∷◌}
-use denote.Exit
-use denote.Param.Send.{param_send, param_sync, arg_send, shr_send}
-use Rattle.input_queue.proofs.Shares.{hub_sync, closure_send}
-use Rattle.input_queue.proofs.hub.InputSeat.TheSendSync.{the_send as seat_send}
-use Rattle.test_input_queue_threads.proofs.tests.both.Goals as goal
-
-pub join-requires-send-F : goal.join-requires-send-F
-join-requires-send-F g c κs within = param_send 1 _ (arg_send _ Exit.no _ (closure_send _ (_ ∷ _ ∷ _ ∷ []) (shr_send _ _ _ (param_sync 0 _ c.type_bounds.sync-R), (shr_send _ _ _ hub_sync, (seat_send, tt)))))

@@ -1,6 +1,0 @@
-//! WebSockets over memory: the frames of RFC 6455 cut at each byte, what each fault is answered by, and what a stream below takes bit by
-//! bit. There are tests here, and nothing else.
-#![tactic(auto)]
-
-#[cfg(test)]
-mod tests;
