@@ -200,29 +200,20 @@ fn one_thread_option<'a>(alloc: Global) -> Arg<'a> {
 
 /// Adds the options of `serve` that say which screen is shown, and on which port.
 fn with_screen<'a>(alloc: Global, command: Command<'a>) -> Result<Command<'a>, AllocError> {
-    let port = option(alloc, "port", "the port")
-        .value_parser(value_parser!(u16))
-        .default_value("5900");
-    let width = option(alloc, "width", "columns of the screen, 1 to 8192")
-        .value_parser(value_parser!(u32))
-        .default_value("640");
+    let port = option(alloc, "port", "the port").value_parser(value_parser!(u16));
+    let command = command.arg(port.default_value("5900"))?;
+    let width = option(alloc, "width", "columns of the screen, 1 to 8192");
+    let command = command.arg(width.value_parser(value_parser!(u32)).default_value("640"))?;
     let height = option(
         alloc,
         "height",
         "rows of the screen, 1 to 8192; at most 2^24 places in all",
-    )
-    .value_parser(value_parser!(u32))
-    .default_value("480");
-    let name = option(alloc, "name", "the desktop's name, at most 255 bytes").default_value("demo");
-    let limit = option(alloc, "limit", "rectangles in an update, 1 to 1000")
-        .value_parser(value_parser!(u32))
-        .default_value("50");
-    command
-        .arg(port)?
-        .arg(width)?
-        .arg(height)?
-        .arg(name)?
-        .arg(limit)
+    );
+    let command = command.arg(height.value_parser(value_parser!(u32)).default_value("480"))?;
+    let name = option(alloc, "name", "the desktop's name, at most 255 bytes");
+    let command = command.arg(name.default_value("demo"))?;
+    let limit = option(alloc, "limit", "rectangles in an update, 1 to 1000");
+    command.arg(limit.value_parser(value_parser!(u32)).default_value("50"))
 }
 
 /// Adds those that say to whom it is shown and until when, and what is kept of that.
@@ -266,17 +257,19 @@ pub(crate) fn with_web<'a>(
     help: &'a str,
 ) -> Result<Command<'a>, AllocError> {
     let web = option(alloc, "web", help).value_parser(value_parser!(u16));
+    let command = command.arg(web)?;
     let host = option(
         alloc,
         "host",
         "names of the server besides this machine's, with commas in between",
     );
+    let command = command.arg(host)?;
     let origin = option(
         alloc,
         "origin",
         "origins whose pages are let in besides the server's own, likewise",
     );
-    command.arg(web)?.arg(host)?.arg(origin)
+    command.arg(origin)
 }
 
 /// Returns the command `serve`.
@@ -467,31 +460,28 @@ fn own_line(alloc: Global, words: &[String]) -> Result<Chosen, Error>
     }
 }
 
-/// Returns the command `replay`.
-fn replay_command<'a>(alloc: Global) -> Result<Command<'a>, AllocError> {
-    let file = Arg::new(alloc, "FILE")
-        .help("the file of the session")
-        .required(true);
-    let viewer = option(alloc, "viewer", "the number of a viewer").value_parser(value_parser!(u64));
-    let lines = option(alloc, "line", "the last line that is read").value_parser(value_parser!(
-        u64
-    ));
-    let picture = flag(alloc, "picture", "writes a picture");
-    let redacted = flag(
+/// Returns the option that `--viewer` and `--picture` go ill with.
+fn redacted_option<'a>(alloc: Global) -> Result<Arg<'a>, AllocError> {
+    flag(
         alloc,
         "redacted",
         "writes the session without what was typed, pointed at and copied",
     )
     .conflicts_with("viewer")?
-    .conflicts_with("picture")?;
+    .conflicts_with("picture")
+}
+
+/// Returns the command `replay`.
+fn replay_command<'a>(alloc: Global) -> Result<Command<'a>, AllocError> {
+    let file = Arg::new(alloc, "FILE").help("the file of the session");
     Command::new(alloc, "replay")
         .about("replays a session that was recorded")
         .after_help(REPLAY_HELP)
-        .arg(file)?
-        .arg(viewer)?
-        .arg(lines)?
-        .arg(picture)?
-        .arg(redacted)
+        .arg(file.required(true))?
+        .arg(option(alloc, "viewer", "the number of a viewer").value_parser(value_parser!(u64)))?
+        .arg(option(alloc, "line", "the last line that is read").value_parser(value_parser!(u64)))?
+        .arg(flag(alloc, "picture", "writes a picture"))?
+        .arg(redacted_option(alloc)?)
 }
 
 /// Returns what the options of `replay` ask.
