@@ -198,22 +198,24 @@ fn one_thread_option<'a>(alloc: Global) -> Arg<'a> {
     )
 }
 
+/// Returns an option that takes a number of places, rows or rectangles.
+fn number<'a>(alloc: Global, name: &'a str, help: &'a str, default: &'a str) -> Arg<'a> {
+    option(alloc, name, help)
+        .value_parser(value_parser!(u32))
+        .default_value(default)
+}
+
 /// Adds the options of `serve` that say which screen is shown, and on which port.
 fn with_screen<'a>(alloc: Global, command: Command<'a>) -> Result<Command<'a>, AllocError> {
     let port = option(alloc, "port", "the port").value_parser(value_parser!(u16));
-    let command = command.arg(port.default_value("5900"))?;
-    let width = option(alloc, "width", "columns of the screen, 1 to 8192");
-    let command = command.arg(width.value_parser(value_parser!(u32)).default_value("640"))?;
-    let height = option(
-        alloc,
-        "height",
-        "rows of the screen, 1 to 8192; at most 2^24 places in all",
-    );
-    let command = command.arg(height.value_parser(value_parser!(u32)).default_value("480"))?;
-    let name = option(alloc, "name", "the desktop's name, at most 255 bytes");
-    let command = command.arg(name.default_value("demo"))?;
-    let limit = option(alloc, "limit", "rectangles in an update, 1 to 1000");
-    command.arg(limit.value_parser(value_parser!(u32)).default_value("50"))
+    let height = "rows of the screen, 1 to 8192; at most 2^24 places in all";
+    let name = "the desktop's name, at most 255 bytes";
+    command
+        .arg(port.default_value("5900"))?
+        .arg(number(alloc, "width", "columns of the screen, 1 to 8192", "640"))?
+        .arg(number(alloc, "height", height, "480"))?
+        .arg(option(alloc, "name", name).default_value("demo"))?
+        .arg(number(alloc, "limit", "rectangles in an update, 1 to 1000", "50"))
 }
 
 /// Adds those that say to whom it is shown and until when, and what is kept of that.
@@ -225,28 +227,16 @@ fn with_viewers<'a>(alloc: Global, command: Command<'a>) -> Result<Command<'a>, 
     )
     .value_parser(value_parser!(u32).range(1..=1024))
     .default_value("1");
-    let check = flag(
-        alloc,
-        "check",
-        "keeps what was drawn, heard and sent, and judges it at the end",
-    );
-    let forever = flag(
-        alloc,
-        "forever",
-        "takes viewers without end, at most --viewers at once",
-    );
-    let ends_with_input = flag(alloc, "end-with-input", "ends once standard input does");
-    let record = option(
-        alloc,
-        "record",
-        "a new file that the session is recorded in, with --one-thread: pictures, and what is typed",
-    );
+    let check = "keeps what was drawn, heard and sent, and judges it at the end";
+    let forever = "takes viewers without end, at most --viewers at once";
+    let record =
+        "a new file that the session is recorded in, with --one-thread: pictures, and what is typed";
     command
         .arg(viewers)?
-        .arg(check)?
-        .arg(forever)?
-        .arg(ends_with_input)?
-        .arg(record)?
+        .arg(flag(alloc, "check", check))?
+        .arg(flag(alloc, "forever", forever))?
+        .arg(flag(alloc, "end-with-input", "ends once standard input does"))?
+        .arg(option(alloc, "record", record))?
         .arg(one_thread_option(alloc))
 }
 
@@ -256,20 +246,12 @@ pub(crate) fn with_web<'a>(
     command: Command<'a>,
     help: &'a str,
 ) -> Result<Command<'a>, AllocError> {
-    let web = option(alloc, "web", help).value_parser(value_parser!(u16));
-    let command = command.arg(web)?;
-    let host = option(
-        alloc,
-        "host",
-        "names of the server besides this machine's, with commas in between",
-    );
-    let command = command.arg(host)?;
-    let origin = option(
-        alloc,
-        "origin",
-        "origins whose pages are let in besides the server's own, likewise",
-    );
-    command.arg(origin)
+    let host = "names of the server besides this machine's, with commas in between";
+    let origin = "origins whose pages are let in besides the server's own, likewise";
+    command
+        .arg(option(alloc, "web", help).value_parser(value_parser!(u16)))?
+        .arg(option(alloc, "host", host))?
+        .arg(option(alloc, "origin", origin))
 }
 
 /// Returns the command `serve`.
