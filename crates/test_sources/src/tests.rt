@@ -1,5 +1,5 @@
-//! `talk` has the openings and what is written, `reading` the messages and what they show, `picture` what is drawn of them.
+//! `talk` has the openings and what is written, `reading` the messages and what they show, `canvas` what is drawn of them.
 
-mod picture;
+mod canvas;
 mod reading;
 mod talk;
