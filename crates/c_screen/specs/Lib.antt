@@ -3,4 +3,5 @@ pub mod Inputs
 pub mod Settings
 pub mod Desk
 pub mod Pixels
+pub mod Places
 pub mod Calls

@@ -26,6 +26,7 @@ use crate::codes::{
     places_code, truth_or,
 };
 use crate::corners::{Corners, are_far, region_of};
+use crate::draw::{DrawByCode, RegionCall};
 use crate::inputs::Inputs;
 use crate::output::{Output, copy_to, drop_output, fetch_output, first_for, put_bytes};
 use crate::pixels::{PixelLayout, source_of};
@@ -228,16 +229,6 @@ impl Desk {
         self.text = Listed::new(self.alloc);
     }
 
-    /// Does `drawing`, one of the calls below as a value, as `Screen::draw` does. Returns 0, or the code of the refusal.
-    fn draw(&mut self, drawing: &Drawing<'_>) -> i32
-        ensures { Draws (event_of drawing.now) self.old self.new result }
-    {
-        let Some(screen) = &mut self.screen else {
-            return SHUT;
-        };
-        done_or(screen.draw(drawing))
-    }
-
     /// Returns the places of the rectangles in `list`, or the code of the refusal: `SHUT`, then `OUT_OF_RANGE` where a coordinate is not
     /// from -2^20 to 2^20, then that of `OutOfMemory`.
     fn places_of(&self, list: &[Corners]) -> Result<Region, i32>
@@ -255,54 +246,6 @@ impl Desk {
             Ok(region) => Ok(region),
             Err(e) => Err(code_of(e)),
         }
-    }
-
-    /// Does what `Screen::paint` does. Returns 0, or the code of `BadRect`, `BadPixelCount` or `OutOfMemory`.
-    pub fn paint(&mut self, x1: i32, y1: i32, x2: i32, y2: i32, colours: &[u32]) -> i32
-        ensures { Draws (Event.Paint (record { x1 = x1; y1 = y1; x2 = x2; y2 = y2 }) colours.now) self.old self.new result }
-    {
-        let rect = Rect { x1, y1, x2, y2 };
-        self.draw(&Drawing::Paint { rect, colours })
-    }
-
-    /// Does what `Screen::write_pixels` does. Returns 0, or the code of `BadRect`, `BadPixelCount` or `OutOfMemory`.
-    pub fn write_pixels(&mut self, x1: i32, y1: i32, x2: i32, y2: i32, colours: &[u32]) -> i32
-        ensures { Draws (Event.Write (record { x1 = x1; y1 = y1; x2 = x2; y2 = y2 }) colours.now) self.old self.new result }
-    {
-        let rect = Rect { x1, y1, x2, y2 };
-        self.draw(&Drawing::Write { rect, colours })
-    }
-
-    /// Does what `Screen::mark_rect` does (`rfbMarkRectAsModified` of `rfb.h`). Returns 0, or the code of `OutOfMemory`.
-    pub fn mark_rect(&mut self, x1: i32, y1: i32, x2: i32, y2: i32) -> i32
-        ensures { Draws (Event.Mark (record { x1 = x1; y1 = y1; x2 = x2; y2 = y2 } ∷ [])) self.old self.new result }
-    {
-        let rect = Rect { x1, y1, x2, y2 };
-        self.draw(&Drawing::MarkRect(rect))
-    }
-
-    /// Does what `Screen::schedule_copy_rect` does (`rfbScheduleCopyRect` of `rfb.h`). Returns 0, or the code of `OutOfMemory`.
-    pub fn schedule_copy_rect(
-        &mut self,
-        x1: i32,
-        y1: i32,
-        x2: i32,
-        y2: i32,
-        dx: i32,
-        dy: i32,
-    ) -> i32
-        ensures { Draws (Event.ScheduleCopy (record { x1 = x1; y1 = y1; x2 = x2; y2 = y2 } ∷ []) dx dy) self.old self.new result }
-    {
-        let rect = Rect { x1, y1, x2, y2 };
-        self.draw(&Drawing::ScheduleCopyRect { rect, dx, dy })
-    }
-
-    /// Does what `Screen::do_copy_rect` does (`rfbDoCopyRect` of `rfb.h`). Returns 0, or the code of `OutOfMemory`.
-    pub fn do_copy_rect(&mut self, x1: i32, y1: i32, x2: i32, y2: i32, dx: i32, dy: i32) -> i32
-        ensures { Draws (Event.DoCopy (record { x1 = x1; y1 = y1; x2 = x2; y2 = y2 } ∷ []) dx dy) self.old self.new result }
-    {
-        let rect = Rect { x1, y1, x2, y2 };
-        self.draw(&Drawing::DoCopyRect { rect, dx, dy })
     }
 
     /// Takes a program's own pixels into the picture as `Screen::take` does (`rfbMarkRectAsModified` of `rfb.h`), from column `left` of
@@ -335,66 +278,6 @@ impl Desk {
             Err(code) => return i64::from(code),
         };
         places_code(screen.take(self.alloc, left, top, &source))
-    }
-
-    /// Does what `Screen::bell` does (`rfbSendBell` of `rfb.h`). Returns 0, or the code of `OutOfMemory`.
-    pub fn bell(&mut self) -> i32
-        ensures { Draws (Event.Bell) self.old self.new result }
-    {
-        self.draw(&Drawing::Bell)
-    }
-
-    /// Does what `Screen::cut_text` does (`rfbSendServerCutText` of `rfb.h`). Returns 0, or the code of `TextTooLong` or `OutOfMemory`.
-    pub fn cut_text(&mut self, text: &[u8]) -> i32
-        ensures { Draws (Event.CutText text.now) self.old self.new result }
-    {
-        self.draw(&Drawing::CutText(text))
-    }
-
-    /// Does what `Screen::new_framebuffer` does (`rfbNewFramebuffer` of `rfb.h`). Returns 0, or the code of `BadSize` or `OutOfMemory`.
-    pub fn new_framebuffer(&mut self, width: u32, height: u32) -> i32
-        ensures { Draws (Event.Resize width height) self.old self.new result }
-    {
-        self.draw(&Drawing::NewFramebuffer { width, height })
-    }
-
-    /// Does what `Screen::mark_region` does (`rfbMarkRegionAsModified` of `rfb.h`) for the places of the rectangles in `list`. Returns 0,
-    /// `OUT_OF_RANGE` where a coordinate is not from -2^20 to 2^20, or the code of `OutOfMemory`.
-    pub fn mark_region(&mut self, list: &[Corners]) -> i32
-        ensures { DrawsRegion (map rect_of list.now) (λ places. Event.Mark places) self.old self.new result }
-    {
-        match self.places_of(list) {
-            Ok(region) => self.draw(&Drawing::MarkRegion(&region)),
-            Err(code) => code,
-        }
-    }
-
-    /// Does what `Screen::schedule_copy_region` does (`rfbScheduleCopyRegion` of `rfb.h`) for the places of the rectangles in `list`.
-    /// Returns 0, `OUT_OF_RANGE` where a coordinate is not from -2^20 to 2^20, or the code of `OutOfMemory`.
-    pub fn schedule_copy_region(&mut self, list: &[Corners], dx: i32, dy: i32) -> i32
-        ensures { DrawsRegion (map rect_of list.now) (λ places. Event.ScheduleCopy places dx dy) self.old self.new result }
-    {
-        match self.places_of(list) {
-            Ok(region) => {
-                let region = &region;
-                self.draw(&Drawing::ScheduleCopyRegion { region, dx, dy })
-            }
-            Err(code) => code,
-        }
-    }
-
-    /// Does what `Screen::do_copy_region` does (`rfbDoCopyRegion` of `rfb.h`) for the places of the rectangles in `list`. Returns 0,
-    /// `OUT_OF_RANGE` where a coordinate is not from -2^20 to 2^20, or the code of `OutOfMemory`.
-    pub fn do_copy_region(&mut self, list: &[Corners], dx: i32, dy: i32) -> i32
-        ensures { DrawsRegion (map rect_of list.now) (λ places. Event.DoCopy places dx dy) self.old self.new result }
-    {
-        match self.places_of(list) {
-            Ok(region) => {
-                let region = &region;
-                self.draw(&Drawing::DoCopyRegion { region, dx, dy })
-            }
-            Err(code) => code,
-        }
     }
 
     /// Opens a black screen with no viewer (`rfbGetScreen` of `rfb.h`), and shuts what was open. `name` is the desktop's (RFC 6143,
@@ -655,6 +538,26 @@ impl Desk {
         match screen.colour(x, y) {
             Some(colour) => i64::from(colour),
             None => i64::from(OFF_SCREEN),
+        }
+    }
+}
+
+impl DrawByCode for Desk {
+    ghost draws = { Draws };
+
+    ghost draws_places = { DrawsRegion };
+
+    fn draw(&mut self, drawing: &Drawing<'_>) -> i32 {
+        let Some(screen) = &mut self.screen else {
+            return SHUT;
+        };
+        done_or(screen.draw(drawing))
+    }
+
+    fn draw_places(&mut self, list: &[Corners], call: RegionCall) -> i32 {
+        match self.places_of(list) {
+            Ok(region) => self.draw(&call.with(&region)),
+            Err(code) => code,
         }
     }
 }

@@ -15,6 +15,7 @@
 mod codes;
 mod corners;
 mod desk;
+mod draw;
 mod inputs;
 mod output;
 mod pixels;
@@ -28,6 +29,7 @@ pub use codes::{
 };
 pub use corners::{Corners, are_far, region_of};
 pub use desk::Desk;
+pub use draw::{DrawByCode, RegionCall};
 pub use output::copy_to;
 pub use pixels::{BAD_FORMAT, BAD_STRIDE, PixelLayout, TOO_FEW_BYTES, source_of};
 pub use screen::{Fault, Input, ScreenError, Settings};
