@@ -15,9 +15,6 @@ use Rattle.screen.specs.State.{State, state, refusal}
 use Rattle.c_screen.specs.Codes.{Answers, IsRefusal, code_of, done, done_code, shut}
 use Rattle.c_screen.specs.Desk.{Standing, StandsFor, IsListOf, due_by, far_or_none, region_due}
 use Rattle.c_screen.specs.Calls.{Draws, DrawsRegion}
-use Rattle.c_screen.specs.declared.draw.RegionCall.{RegionCall}
-use Rattle.c_screen.specs.declared.draw.RegionCall.TheVariants.{Mark, ScheduleCopy, DoCopy}
-use Rattle.c_screen.specs.Places.{event_by}
 
 -- no refusal has the code of what is done
 pub never_done : (e : ScreenError) → code_of e ≢ done
@@ -67,12 +64,6 @@ draws desk before s t f e result code output inputs text view is same code_is st
     same = refl;
     refused = λ not_done. ap standing err;
   }
-
--- no call for the places of a region is refused but for memory
-pub free_places : (call : RegionCall) (places : List Rect) (e : Event) → e ≡ event_by call places → (s : State) → refusal s e ≡ None
-free_places Mark places e is = λ s. rw is refl
-free_places (ScheduleCopy dx dy) places e is = λ s. rw is refl
-free_places (DoCopy dx dy) places e is = λ s. rw is refl
 
 -- a drawing call that can't be refused but for memory, for the places of rectangles
 pub draws_places : (rects places : List Rect) (event : List Rect → Event) (e : Event) (desk old new : Standing) (n code : ℤ) → old ≡ desk → code ≡ n → e ≡ event places → ((s : State) → refusal s e ≡ None) → IsListOf rects places → region_due old rects ≡ None

@@ -4,4 +4,5 @@ pub mod Settings
 pub mod Desk
 pub mod Pixels
 pub mod Places
+pub mod PlacesLemmas
 pub mod Calls

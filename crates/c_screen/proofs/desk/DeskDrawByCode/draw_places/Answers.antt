@@ -1,5 +1,6 @@
 use Rattle.std.proofs.Common.{rules, refl}
-use Rattle.c_screen.proofs.Drawing.{draws_places, undrawn_places, free_places}
+use Rattle.c_screen.specs.PlacesLemmas.{free_places}
+use Rattle.c_screen.proofs.Drawing.{draws_places, undrawn_places}
 use Rattle.c_screen.proofs.desk.DeskDrawByCode.draw_places.Goals as goal
 
 pub returns-in-Ok : goal.returns-in-Ok
