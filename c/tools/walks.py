@@ -16,6 +16,12 @@ THINGS = {
     "ServerDesk": ("c_server", "desk", "desk_row", "holds", "leaves"),
     "ServerWaker": ("c_server", "waker", "waker_row", "holds_waker", "leaves_waker"),
 }
+# the methods that a thing has of a trait, by the names of its impl's module and of the impl
+DRAWING = {
+    "Desk": ("desk", "DeskDrawByCode"),
+    "ServerDesk": ("drawing", "ServerDeskDrawByCode"),
+}
+DRAWS = {"paint", "write_pixels", "mark_rect", "mark_region", "schedule_copy_rect", "schedule_copy_region", "do_copy_rect", "do_copy_region", "bell", "cut_text", "new_framebuffer"}
 WIDTHS = {"u8": "w8", "u16": "w16", "u32": "w32", "u64": "w64", "usize": "w64", "i8": "w8", "i16": "w16", "i32": "w32", "i64": "w64"}
 ROWS = {"Told": ("c_screen", "told"), "Corners": ("c_screen", "corners"), "Visit": ("c_server", "visits"), "PixelLayout": ("c_screen", "pixels")}
 
@@ -149,6 +155,8 @@ def clause_of(text, names, kinds, after):
 
 def walk(crate, door, struct, method, names, kinds, result, clause, uses):
     library, module, thing, holds, leaves = THINGS[struct]
+    if method in DRAWS:
+        module, struct = DRAWING[struct]
     loans = sum(kind != "number" for kind, _ in kinds)
     vals, tells, stay, goes, shown, words, fit = ["rawptr_vals"], ["rawptr_Tells"], ["stay_dropped _ yes"], [f"Goes-dropped 𝓛 {loans} (plain (λ _. RawPtr)) yes (λ κs x w. refl)"], ["(tt, tt)"], [], ["tt"]
     loan = 0

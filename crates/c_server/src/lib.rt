@@ -25,8 +25,8 @@ mod visits;
 mod waker;
 
 pub use c_screen::{
-    BAD_FORMAT, BAD_STRIDE, Corners, OFF_SCREEN, OUT_OF_RANGE, PixelLayout, SHUT, TOO_FEW_BYTES,
-    Told, code_of, fault_code,
+    BAD_FORMAT, BAD_STRIDE, Corners, DrawByCode, OFF_SCREEN, OUT_OF_RANGE, PixelLayout, RegionCall,
+    SHUT, TOO_FEW_BYTES, Told, code_of, fault_code,
 };
 pub use codes::{
     BAD_ADDRESS, BAD_SOCKET, CANNOT_ADOPT, CANNOT_LISTEN, CLOCK_FAILED, FULL, NETWORK_FAILED,

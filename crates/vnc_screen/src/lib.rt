@@ -21,7 +21,7 @@ ghost use Rattle.c_screen.specs.Desk.{nothing_there, rect_of, config_of};
 ghost use Rattle.c_screen.specs.Pixels.{format_of, source_from};
 ghost use Rattle.source_pixels.specs.declared.formats.SourceFormat.TheVariants as format;
 
-use c_screen::{Corners, Desk, DeskUpdate, PixelLayout, Told};
+use c_screen::{Corners, Desk, DeskUpdate, DrawByCode, PixelLayout, Told};
 use std::alloc::Global;
 use std::mem::size_of;
 use std::ptr;

@@ -20,7 +20,7 @@ ghost use Rattle.c_server.specs.Calls.{Listens, ListensAt, ListensFurther, Serve
 ghost use Rattle.c_screen.specs.Pixels.{format_of, source_from};
 ghost use Rattle.source_pixels.specs.declared.formats.SourceFormat.TheVariants as format;
 
-use c_server::{Corners, PixelLayout, ServerDesk, ServerWaker, Told, Visit};
+use c_server::{Corners, DrawByCode, PixelLayout, ServerDesk, ServerWaker, Told, Visit};
 use std::alloc::Global;
 use std::mem::size_of;
 use std::ptr;

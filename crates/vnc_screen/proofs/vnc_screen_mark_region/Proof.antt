@@ -18,8 +18,8 @@ use Rattle.c_screen.specs.contracts.corners.Corners.{the_row as Corners-row}
 use Rattle.vnc_screen.specs.contracts.vnc_screen_mark_region as f
 use Rattle.vnc_screen.proofs.vnc_screen_mark_region.Statement.{statement}
 use Rattle.vnc_screen.proofs.vnc_screen_mark_region.Code as code
-use Rattle.c_screen.specs.contracts.desk.Desk.mark_region as g
-use Rattle.c_screen.proofs.desk.Desk.mark_region.Met.{met}
+use Rattle.c_screen.specs.contracts.desk.DeskDrawByCode.mark_region as g
+use Rattle.c_screen.proofs.desk.DeskDrawByCode.mark_region.Met.{met}
 
 abbrev stayed : Stays f.ended.signature.params f.ended.kept
 stayed = (stay_dropped _ yes, (stay_dropped _ yes, tt))
@@ -45,7 +45,7 @@ vnc_screen_mark_region_spec 𝓤 𝓛 𝓜 𝓡 wired =
     let G = triple_of 𝓛 g.signature (g.spec 𝓛 𝓜.mem 𝓡.returns) in
     let z : G.Ghost = (((κ, κs), (full_share, qs), tt, (record { ref_ptr = (b, o); ghost_name = γ; now = s }, a.1), (vptr b o ∷ [], (y a.0).0.4.1)), tt) in
     move ! (0 ∷ 3 ∷ []) $ fjoin ! $ move ! (2 ∷ 3 ∷ 0 ∷ []) $ join ! $ join ! $ nothing ! $ move ! (1 ∷ 0 ∷ []) $ use2 𝓛 (raw (G.pre z)) (id⊢ 𝓤 _) $
-    calls_at ! (framed 𝓤 𝓛.H 𝓜 (tables 𝓤 𝓛.H 𝓜 𝓡 𝓡.env)) G (met 𝓤 𝓛 𝓜 𝓡 (code.calls-c_screen::desk::Desk::mark_region 𝓡.env wired)) z
+    calls_at ! (framed 𝓤 𝓛.H 𝓜 (tables 𝓤 𝓛.H 𝓜 𝓡 𝓡.env)) G (met 𝓤 𝓛 𝓜 𝓡 (code.calls-c_screen::desk::DeskDrawByCode::mark_region 𝓡.env wired)) z
     (and_then ! (get ! refl) (and_then ! (get ! refl) (no_more !))) (λ v.
     use1 𝓛 (later (some (λ (r : i32.Denot). ((‵ (flft κ full_share) ⊛ (‵ (flft κs.0 qs.0) ⊛ ‵ ftrue)) ⊛ ‵ (i32.own_val r (v ∷ []))) ⊛ some (λ (ws : Lasts g.ended z.0.0 z.0.3). ‵ (lasts g.ended z.0.0 z.0.3 ws) ⊛ raw (fact 𝓤 (DrawsRegion (map rect_of a.1.0.now) (λ places. Event.Mark places) s ws.0 r)))))) (id⊢ 𝓤 _) $
     await ! tt $ pick ! (λ r. split ! $ split ! $ split ! $ lft_end ! tt $
