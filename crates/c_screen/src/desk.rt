@@ -10,7 +10,6 @@ ghost use Rattle.std.specs.Prelude.{ℤ, IfOk, IfErr, OnOk, OnErr, IsOkUnless, M
 ghost use Rattle.screen.specs.declared.Config.{Config};
 ghost use Rattle.screen.specs.Alone.{config_refusal, some_bytes};
 ghost use Rattle.screen.specs.Answers.{answer_to};
-ghost use Rattle.screen.specs.Calls.{event_of};
 ghost use Rattle.screen.specs.Refusals.{Refuses};
 ghost use Rattle.screen.specs.State.{state, refusal, viewer_at};
 ghost use Rattle.c_screen.specs.Codes as code;
