@@ -10,7 +10,7 @@
 #![tactic(auto)]
 
 use connections::{
-    Application, Canvas, Connections, Input, Readiness, Receipt, Rect, ScreenError, Transport,
+    Application, Canvas, Connections, Draw, Input, Readiness, Receipt, Rect, ScreenError, Transport,
 };
 use screen::{Config, History, Listed};
 use std::alloc::Global;
