@@ -16,12 +16,13 @@ THINGS = {
     "ServerDesk": ("c_server", "desk", "desk_row", "holds", "leaves"),
     "ServerWaker": ("c_server", "waker", "waker_row", "holds_waker", "leaves_waker"),
 }
-# the methods that a thing has of a trait, by the names of its impl's module and of the impl
+# the methods that a thing has of the trait `DrawByCode`, by the names of its impl's module and of the impl
 DRAWING = {
     "Desk": ("desk", "DeskDrawByCode"),
     "ServerDesk": ("drawing", "ServerDeskDrawByCode"),
 }
-DRAWS = {"paint", "write_pixels", "mark_rect", "mark_region", "schedule_copy_rect", "schedule_copy_region", "do_copy_rect", "do_copy_region", "bell", "cut_text", "new_framebuffer"}
+with open(os.path.join(os.path.dirname(os.path.abspath(__file__)), "../../crates/c_screen/src/draw.rt"), encoding="utf-8") as it:
+    DRAWS = set(re.findall(r"^    fn (\w+)\(", it.read(), re.M))
 WIDTHS = {"u8": "w8", "u16": "w16", "u32": "w32", "u64": "w64", "usize": "w64", "i8": "w8", "i16": "w16", "i32": "w32", "i64": "w64"}
 ROWS = {"Told": ("c_screen", "told"), "Corners": ("c_screen", "corners"), "Visit": ("c_server", "visits"), "PixelLayout": ("c_screen", "pixels")}
 
