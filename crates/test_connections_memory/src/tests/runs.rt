@@ -286,7 +286,7 @@ const RUN: Run = Run {
     ],
 };
 
-static RUNS: [Run; 13] = [
+static RUNS: [Run; 14] = [
     RUN,
     // one takes 7 bytes at a time, in each second write; one takes 60 bytes and no more; one says a byte at a time
     Run {
@@ -380,6 +380,32 @@ static RUNS: [Run; 13] = [
                         ..END
                     },
                 ],
+                true,
+            ),
+        ],
+        ..RUN
+    },
+    // it takes 7 bytes in each second write, and what it says last is no message
+    Run {
+        name: "who errs is sent what waits",
+        steps: &[
+            Step::Admits(Talk {
+                says: b"RFB 003.008\n\x01\x01\x63",
+                takes: 7,
+                blocks: true,
+                ..TALK
+            }),
+            Step::Turns(4),
+            Step::HaveLeft(&[], true),
+            Step::Turns(40),
+            Step::HaveLeft(
+                &[End {
+                    ended: Ended::Fault(Fault::UnknownMessage(0x63)),
+                    count: GREETED,
+                    heard: b"RFB 003.008\n\x01\x01\x63",
+                    cuts: 0,
+                    ..END
+                }],
                 true,
             ),
         ],

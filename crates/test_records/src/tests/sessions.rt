@@ -178,6 +178,42 @@ const SECRETS: &[u8] =
 const REDACTED: &[u8] =
     b"# by hand\nscreen 4 3 demo\n\nconnect 1\nhear 1 524642203030332e3030380a0101\nhear 1 03000000000000040003\ncut 1\nhear 1 0400000000000000\npaint 0 0 1 1 FF8000\nhear 1 050000000000060000000000000200\nhear 1 0003010000000000040003\ncut 1\nhear 7 0000\nclose 1\n";
 
+/// Four viewers in turn, which say the same in pieces of 1, 3, 7 and 64 bytes: an opening in 3.8, a pixel format, a request, a key, a
+/// pointer, a text of two bytes, and a request. And what is left of it.
+const IN_TURN: &[u8] =
+    b"screen 4 3 demo\nconnect 1\nconnect 2\nconnect 3\nconnect 4\nhear 1 52\nhear 2 524642\nhear 3 52464220303033\n\
+    hear 4 524642203030332e3030380a0101000000002018000100ff00ff00ff10080000000003010000000000040003040100000000ff0d050100020001060000000000\n\
+    hear 1 46\nhear 2 203030\nhear 3 2e3030380a0101\nhear 4 0002686903000000000000040003\nhear 1 42\nhear 2 332e30\n\
+    hear 3 00000000201800\nhear 1 20\nhear 2 30380a\nhear 3 0100ff00ff00ff\nhear 1 30\nhear 2 010100\nhear 3 10080000000003\n\
+    hear 1 30\nhear 2 000000\nhear 3 01000000000004\nhear 1 33\nhear 2 201800\nhear 3 00030401000000\nhear 1 2e\nhear 2 0100ff\n\
+    hear 3 00ff0d05010002\nhear 1 30\nhear 2 00ff00\nhear 3 00010600000000\nhear 1 30\nhear 2 ff1008\nhear 3 00000268690300\n\
+    hear 1 38\nhear 2 000000\nhear 3 00000000000400\nhear 1 0a\nhear 2 000301\nhear 3 03\nhear 1 01\nhear 2 000000\nhear 1 01\n\
+    hear 2 000004\nhear 1 00\nhear 2 000304\nhear 1 00\nhear 2 010000\nhear 1 00\nhear 2 0000ff\nhear 1 00\nhear 2 0d0501\n\
+    hear 1 20\nhear 2 000200\nhear 1 18\nhear 2 010600\nhear 1 00\nhear 2 000000\nhear 1 01\nhear 2 000002\nhear 1 00\n\
+    hear 2 686903\nhear 1 ff\nhear 2 000000\nhear 1 00\nhear 2 000000\nhear 1 ff\nhear 2 040003\nhear 1 00\nhear 1 ff\nhear 1 10\n\
+    hear 1 08\nhear 1 00\nhear 1 00\nhear 1 00\nhear 1 00\nhear 1 03\nhear 1 01\nhear 1 00\nhear 1 00\nhear 1 00\nhear 1 00\n\
+    hear 1 00\nhear 1 04\nhear 1 00\nhear 1 03\nhear 1 04\nhear 1 01\nhear 1 00\nhear 1 00\nhear 1 00\nhear 1 00\nhear 1 ff\n\
+    hear 1 0d\nhear 1 05\nhear 1 01\nhear 1 00\nhear 1 02\nhear 1 00\nhear 1 01\nhear 1 06\nhear 1 00\nhear 1 00\nhear 1 00\n\
+    hear 1 00\nhear 1 00\nhear 1 00\nhear 1 02\nhear 1 68\nhear 1 69\nhear 1 03\nhear 1 00\nhear 1 00\nhear 1 00\nhear 1 00\n\
+    hear 1 00\nhear 1 00\nhear 1 04\nhear 1 00\nhear 1 03\n";
+
+const IN_TURN_REDACTED: &[u8] =
+    b"screen 4 3 demo\nconnect 1\nconnect 2\nconnect 3\nconnect 4\nhear 1 52\nhear 2 524642\nhear 3 52464220303033\n\
+    hear 4 524642203030332e3030380a0101000000002018000100ff00ff00ff100800000000030100000000000400030400000000000000050000000000060000000000\n\
+    hear 1 46\nhear 2 203030\nhear 3 2e3030380a0101\nhear 4 0002000003000000000000040003\nhear 1 42\nhear 2 332e30\n\
+    hear 3 00000000201800\nhear 1 20\nhear 2 30380a\nhear 3 0100ff00ff00ff\nhear 1 30\nhear 2 010100\nhear 3 10080000000003\n\
+    hear 1 30\nhear 2 000000\nhear 3 01000000000004\nhear 1 33\nhear 2 201800\nhear 3 00030400000000\nhear 1 2e\nhear 2 0100ff\n\
+    hear 3 00000005000000\nhear 1 30\nhear 2 00ff00\nhear 3 00000600000000\nhear 1 30\nhear 2 ff1008\nhear 3 00000200000300\n\
+    hear 1 38\nhear 2 000000\nhear 3 00000000000400\nhear 1 0a\nhear 2 000301\nhear 3 03\nhear 1 01\nhear 2 000000\nhear 1 01\n\
+    hear 2 000004\nhear 1 00\nhear 2 000304\nhear 1 00\nhear 2 000000\nhear 1 00\nhear 2 000000\nhear 1 00\nhear 2 000500\n\
+    hear 1 20\nhear 2 000000\nhear 1 18\nhear 2 000600\nhear 1 00\nhear 2 000000\nhear 1 01\nhear 2 000002\nhear 1 00\n\
+    hear 2 000003\nhear 1 ff\nhear 2 000000\nhear 1 00\nhear 2 000000\nhear 1 ff\nhear 2 040003\nhear 1 00\nhear 1 ff\nhear 1 10\n\
+    hear 1 08\nhear 1 00\nhear 1 00\nhear 1 00\nhear 1 00\nhear 1 03\nhear 1 01\nhear 1 00\nhear 1 00\nhear 1 00\nhear 1 00\n\
+    hear 1 00\nhear 1 04\nhear 1 00\nhear 1 03\nhear 1 04\nhear 1 00\nhear 1 00\nhear 1 00\nhear 1 00\nhear 1 00\nhear 1 00\n\
+    hear 1 00\nhear 1 05\nhear 1 00\nhear 1 00\nhear 1 00\nhear 1 00\nhear 1 00\nhear 1 06\nhear 1 00\nhear 1 00\nhear 1 00\n\
+    hear 1 00\nhear 1 00\nhear 1 00\nhear 1 02\nhear 1 00\nhear 1 00\nhear 1 03\nhear 1 00\nhear 1 00\nhear 1 00\nhear 1 00\n\
+    hear 1 00\nhear 1 00\nhear 1 04\nhear 1 00\nhear 1 03\n";
+
 static BAD_LINES: [&str; 14] = [
     "pant",
     "marks 1 2 3",
@@ -195,7 +231,7 @@ static BAD_LINES: [&str; 14] = [
     "desktop",
 ];
 
-static CASES: [Case; 22] = [
+static CASES: [Case; 23] = [
     Case {
         name: "no line",
         session: b"",
@@ -335,6 +371,13 @@ static CASES: [Case; 22] = [
         question: Redacted,
         lines: u64::MAX,
         answer: REDACTED,
+    },
+    Case {
+        name: "pieces without what is secret",
+        session: IN_TURN,
+        question: Redacted,
+        lines: u64::MAX,
+        answer: IN_TURN_REDACTED,
     },
     Case {
         name: "the first lines without what is secret",
