@@ -53,7 +53,7 @@ pub trait DrawByCode {
     fn draw_places(&mut self, list: &[Corners], call: RegionCall) -> i32
         ensures { draws_places (map rect_of list.now) (event_by call) self.old self.new result };
 
-    /// Answers the code of `BadRect` or `BadPixelCount` too.
+    /// Replaces the colours of a rectangle, row by row, and owes it to every viewer. Answers the code of `BadRect` or `BadPixelCount` too.
     fn paint(&mut self, x1: i32, y1: i32, x2: i32, y2: i32, colours: &[u32]) -> i32
         ensures { draws (Event.Paint (record { x1 = x1; y1 = y1; x2 = x2; y2 = y2 }) colours.now) self.old self.new result }
     {
@@ -61,7 +61,7 @@ pub trait DrawByCode {
         self.draw(&Drawing::Paint { rect, colours })
     }
 
-    /// Answers what `paint` answers.
+    /// Replaces the colours of a rectangle, row by row, and tells no viewer. Answers what `paint` answers.
     fn write_pixels(&mut self, x1: i32, y1: i32, x2: i32, y2: i32, colours: &[u32]) -> i32
         ensures { draws (Event.Write (record { x1 = x1; y1 = y1; x2 = x2; y2 = y2 }) colours.now) self.old self.new result }
     {
@@ -69,21 +69,23 @@ pub trait DrawByCode {
         self.draw(&Drawing::Write { rect, colours })
     }
 
-    /// Marks a rectangle (`rfbMarkRectAsModified` of `rfb.h`).
+    /// Owes the places of a rectangle that are on the screen to every viewer (`rfbMarkRectAsModified` of `rfb.h`).
     fn mark_rect(&mut self, x1: i32, y1: i32, x2: i32, y2: i32) -> i32
         ensures { draws (Event.Mark (record { x1 = x1; y1 = y1; x2 = x2; y2 = y2 } ∷ [])) self.old self.new result }
     {
         self.draw(&Drawing::MarkRect(Rect { x1, y1, x2, y2 }))
     }
 
-    /// Marks the places of the rectangles in `list` (`rfbMarkRegionAsModified` of `rfb.h`). Answers what `draw_places` answers.
+    /// Owes the places of the rectangles in `list` that are on the screen to every viewer (`rfbMarkRegionAsModified` of `rfb.h`). Answers
+    /// what `draw_places` answers.
     fn mark_region(&mut self, list: &[Corners]) -> i32
         ensures { draws_places (map rect_of list.now) (λ places. Event.Mark places) self.old self.new result }
     {
         self.draw_places(list, RegionCall::Mark)
     }
 
-    /// Tells the viewers of a copy to a rectangle (`rfbScheduleCopyRect` of `rfb.h`).
+    /// Tells every viewer that the places of a rectangle get the colours of the places (dx, dy) before them (`rfbScheduleCopyRect` of
+    /// `rfb.h`). The picture stays.
     fn schedule_copy_rect(&mut self, x1: i32, y1: i32, x2: i32, y2: i32, dx: i32, dy: i32) -> i32
         ensures { draws (Event.ScheduleCopy (record { x1 = x1; y1 = y1; x2 = x2; y2 = y2 } ∷ []) dx dy) self.old self.new result }
     {
@@ -91,14 +93,16 @@ pub trait DrawByCode {
         self.draw(&Drawing::ScheduleCopyRect { rect, dx, dy })
     }
 
-    /// Tells them of one to the places of the rectangles in `list` (`rfbScheduleCopyRegion` of `rfb.h`). Answers what `draw_places` answers.
+    /// Does what `schedule_copy_rect` does for the places of the rectangles in `list` (`rfbScheduleCopyRegion` of `rfb.h`). Answers what
+    /// `draw_places` answers.
     fn schedule_copy_region(&mut self, list: &[Corners], dx: i32, dy: i32) -> i32
         ensures { draws_places (map rect_of list.now) (λ places. Event.ScheduleCopy places dx dy) self.old self.new result }
     {
         self.draw_places(list, RegionCall::ScheduleCopy { dx, dy })
     }
 
-    /// Makes a copy to a rectangle (`rfbDoCopyRect` of `rfb.h`).
+    /// Gives the places of a rectangle the colours that the places (dx, dy) before them had, all at once, and tells every viewer
+    /// (`rfbDoCopyRect` of `rfb.h`).
     fn do_copy_rect(&mut self, x1: i32, y1: i32, x2: i32, y2: i32, dx: i32, dy: i32) -> i32
         ensures { draws (Event.DoCopy (record { x1 = x1; y1 = y1; x2 = x2; y2 = y2 } ∷ []) dx dy) self.old self.new result }
     {
@@ -106,28 +110,31 @@ pub trait DrawByCode {
         self.draw(&Drawing::DoCopyRect { rect, dx, dy })
     }
 
-    /// Makes one to the places of the rectangles in `list` (`rfbDoCopyRegion` of `rfb.h`). Answers what `draw_places` answers.
+    /// Does what `do_copy_rect` does for the places of the rectangles in `list` (`rfbDoCopyRegion` of `rfb.h`). Answers what `draw_places`
+    /// answers.
     fn do_copy_region(&mut self, list: &[Corners], dx: i32, dy: i32) -> i32
         ensures { draws_places (map rect_of list.now) (λ places. Event.DoCopy places dx dy) self.old self.new result }
     {
         self.draw_places(list, RegionCall::DoCopy { dx, dy })
     }
 
-    /// Rings the bell (`rfbSendBell` of `rfb.h`).
+    /// Keeps a bell for every open viewer for which fewer than 64 notices wait (`rfbSendBell` of `rfb.h`).
     fn bell(&mut self) -> i32
         ensures { draws Event.Bell self.old self.new result }
     {
         self.draw(&Drawing::Bell)
     }
 
-    /// Gives a text to every viewer (`rfbSendServerCutText` of `rfb.h`). Answers the code of `TextTooLong` too.
+    /// Keeps a text for every open viewer for which fewer than 64 notices wait (`rfbSendServerCutText` of `rfb.h`). Answers the code of
+    /// `TextTooLong` too.
     fn cut_text(&mut self, text: &[u8]) -> i32
         ensures { draws (Event.CutText text.now) self.old self.new result }
     {
         self.draw(&Drawing::CutText(text))
     }
 
-    /// Replaces the framebuffer (`rfbNewFramebuffer` of `rfb.h`). Answers the code of `BadSize` too.
+    /// Replaces the framebuffer by one that is 0 everywhere, and owes every place to every viewer (`rfbNewFramebuffer` of `rfb.h`). Answers
+    /// the code of `BadSize` too.
     fn new_framebuffer(&mut self, width: u32, height: u32) -> i32
         ensures { draws (Event.Resize width height) self.old self.new result }
     {

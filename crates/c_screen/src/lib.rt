@@ -3,6 +3,8 @@
 //! that is fetched, and what they told the program.
 //!
 //! ```
+//! use c_screen::{Desk, DrawByCode};
+//!
 //! let mut desk = Desk::new(alloc);
 //! desk.open(2, 1, b"demo", 50);
 //! desk.connect(1);

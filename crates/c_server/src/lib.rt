@@ -3,6 +3,9 @@
 //! and below 0 the code of its refusal. What viewers told, and who came and went, waits until it is fetched.
 //!
 //! ```
+//! use c_screen::DrawByCode;
+//! use c_server::ServerDesk;
+//!
 //! let mut desk = ServerDesk::new(alloc);
 //! desk.listen(b"127.0.0.1", 5900, 640, 480, b"demo", 16);
 //! desk.paint(0, 0, 1, 1, &[0xff_ffff]);

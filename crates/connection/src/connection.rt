@@ -265,7 +265,7 @@ impl<T: Transport> Connection<T> {
     }
 
     /// Returns whether its next update waits for what is encoded for several viewers, which was lost `losses` times before. Where it was
-    /// lost since the wait began, the update doesn't wait, nor do the next 64.
+    /// lost since the wait began, the update doesn't wait, nor do the next 63.
     pub fn waits(&mut self, losses: u64) -> bool
         ensures { self.new ≡ self.old }
     {

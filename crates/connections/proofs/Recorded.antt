@@ -14,7 +14,6 @@ use Rattle.screen.specs.Happening.{AllHappen}
 use Rattle.screen.specs.HappeningLemmas.{one-happens, none-happens, told-accepted}
 use Rattle.scribe.specs.Scribing.{Scribed}
 use Rattle.recorder.specs.Events.{event_line}
-use Rattle.connections.specs.Drawing.{Surface}
 use Rattle.connections.specs.Recorded.{cut_gives, PutsWhere, RecordsMore}
 use Rattle.connections.specs.RecordedLemmas.{lines-one, records-lines, records-nothing}
 

@@ -3,6 +3,8 @@
 //! program says which transports are ready, and takes turns.
 //!
 //! ```
+//! use connections::{Connections, Draw};
+//!
 //! let mut connections = Connections::new(alloc, config)?;
 //! let key = connections.admit(transport)?;
 //! connections.turn(&mut application)?;

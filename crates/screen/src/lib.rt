@@ -3,6 +3,8 @@
 //! A viewer opens, asks for the framebuffer, and is sent the place that was painted red beside a black one:
 //!
 //! ```
+//! use screen::{Draw, Screen};
+//!
 //! let mut screen = Screen::new(alloc, config)?; // 2 by 1
 //! screen.connect(1)?;
 //! screen.hear(1, b"RFB 003.008\n\x01\x01")?;
