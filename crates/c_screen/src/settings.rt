@@ -10,10 +10,10 @@ use crate::output::copy_to;
 use crate::told::one_if;
 use screen::{BitsPerPixel, Encoding, PixelFormat, Pixels, ScreenError, Settings};
 
-/// What a viewer has set by its messages (RFC 6143, 7.3.1, 7.5.1 and 7.5.2).
+/// What a viewer has set by its messages (RFC 6143, 7.3.1, 7.5.1 to 7.5.3).
 #[derive(Clone, Copy)]
 pub struct ViewerSettings {
-    /// 1 where its ClientInit asked that other viewers stay connected; 0 before it. The server serves all all the same.
+    /// 1 where its ClientInit asked that other viewers stay connected; 0 before it. The server serves all of them either way.
     pub shared: u32,
     /// The number of its encoding (7.7): 0 for Raw, 2 for RRE, 5 for Hextile; the first of these in its SetEncodings, and Raw where
     /// there is none.

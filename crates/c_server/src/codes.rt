@@ -14,7 +14,8 @@ pub const BAD_ADDRESS: i32 = -13;
 /// The system doesn't let the program listen there, or has no more handles.
 pub const CANNOT_LISTEN: i32 = -14;
 
-/// The system failed to say which sockets are ready.
+/// The system refused something of the network: to say which sockets are ready, a handle, not to wait at a socket, a viewer's address, or
+/// to wake.
 pub const NETWORK_FAILED: i32 = -15;
 
 /// The system failed to say what time it is.
@@ -23,7 +24,7 @@ pub const CLOCK_FAILED: i32 = -16;
 /// The file of a record is there already, or can't be made.
 pub const CANNOT_RECORD: i32 = -20;
 
-/// The descriptor is no socket that is connected.
+/// The descriptor is no socket, or for `adopt` not connected, or for `listen_at` none that can listen.
 pub const BAD_SOCKET: i32 = -22;
 
 /// As many viewers are connected as may be at once.

@@ -31,11 +31,11 @@ use std::os::fd::AsRawFd;
 use std::time::Duration;
 
 /// A server in one thread, or none where the desk is shut; and what came of its viewers and wasn't fetched. Each call answers `SHUT`
-/// where it is shut, but for `listen` and `close`. A number below 0 is the code of a refusal, and nothing has changed then, but for
-/// `process_events`, which says what holds.
+/// where it is shut, but for `listen`, `serve`, `record_next` and `close`. A number below 0 is the code of a refusal, and nothing has
+/// changed then, but for what `process_events`, `update_from`, `adopt` and `listen_at` say.
 ///
 /// At most 4,096 inputs wait, 4 MB of texts, and 1,024 comings and goings. What comes when there is no more room, and an input for which
-/// memory is refused, is lost, and counted: `lost`.
+/// memory is refused, is lost, and counted: `lost_count`.
 pub struct ServerDesk {
     pub(crate) alloc: Global,
     pub(crate) events: Option<EventLoop>,
@@ -189,8 +189,9 @@ impl ServerDesk {
         }
     }
 
-    /// Names the file in which the screen that `listen` serves next is recorded, by its path of at most 4,095 bytes; none by a path of no
-    /// bytes. `listen` makes the file, and `vncdemo replay` reads it. Returns `OutOfMemory`'s code where memory for the path is refused.
+    /// Names the file in which the screen that `listen` or `serve` serves next is recorded, by its path of at most 4,095 bytes; none by a
+    /// path of no bytes. That call makes the file, and `vncdemo replay` reads it. Returns 0, also where the desk is shut, or
+    /// `OutOfMemory`'s code where memory for the path is refused.
     pub fn record_next(&mut self, path: &[u8]) -> i32
         ensures { NamesRecord path.now self.old self.new result }
     {
@@ -218,10 +219,12 @@ impl ServerDesk {
     }
 
     /// Listens on a port of an address, and serves a black screen to as many viewers at once as `viewers` says (`rfbGetScreen` and
-    /// `rfbInitServer` of `rfb.h`); a further one waits until one has left. What was open is closed. `address` is an IP address in
-    /// digits, as `127.0.0.1`, `0.0.0.0` for all of the machine's, or `::1`; of port 0 the system chooses one, which `port` tells.
-    /// `name` is the desktop's (RFC 6143, 7.3.2), of at most 255 bytes. `BAD_ADDRESS` where the address isn't one, `CANNOT_LISTEN`
-    /// where the system refuses it, and `CANNOT_RECORD` where `record_next` named a file that is there already, or can't be made.
+    /// `rfbInitServer` of `rfb.h`); a further one waits until one has left. What was open is closed once this is done, and stays where it
+    /// is refused. `address` is an IP address in digits, as `127.0.0.1`, `0.0.0.0` for all of the machine's, or `::1`; of port 0 the
+    /// system chooses one, which `port` tells. `name` is the desktop's (RFC 6143, 7.3.2), of at most 255 bytes.
+    ///
+    /// Returns 0, or the code of `BadSize`, `BadName` or `OutOfMemory`; `BAD_ADDRESS` where the address isn't one, `CANNOT_LISTEN` where
+    /// the system refuses it, and `CANNOT_RECORD` where `record_next` named a file that is there already, or can't be made.
     pub fn listen(
         &mut self,
         address: &[u8],
@@ -289,7 +292,8 @@ impl ServerDesk {
 
     /// Listens on a port for browsers, which are viewers over WebSockets (RFC 6455), in place of one on which it listened for them before. A
     /// browser's request is let in where its Host is `127.0.0.1`, `localhost` or `[::1]`, or one of `hosts`, and where it has no Origin, or
-    /// that of the same host, or one of `origins`: lists with commas in between. Returns the port, or what `listen_also` does.
+    /// that of the same host, or one of `origins`: lists with commas in between. Returns the port, or `BAD_ADDRESS`,
+    /// `CANNOT_LISTEN` or `OutOfMemory`'s code.
     pub fn listen_web(&mut self, address: &[u8], port: u16, hosts: &[u8], origins: &[u8]) -> i32
         ensures { ListensFurther address.now port self.old self.new result }
     {
@@ -309,7 +313,8 @@ impl ServerDesk {
     }
 
     /// Serves a black screen to as many viewers at once as `viewers` says, and listens nowhere: they come by `adopt`. What was open is
-    /// closed. `name` is the desktop's (RFC 6143, 7.3.2), of at most 255 bytes. `NETWORK_FAILED` where the system has no more handles, and
+    /// closed once this is done, and stays where it is refused. `name` is the desktop's (RFC 6143, 7.3.2), of at most 255 bytes. Returns
+    /// 0, or the code of `BadSize`, `BadName` or `OutOfMemory`; `NETWORK_FAILED` where the system has no more handles, and
     /// `CANNOT_RECORD` where `record_next` named a file that is there already, or can't be made.
     pub fn serve(&mut self, width: u32, height: u32, name: &[u8], viewers: u32) -> i32
         ensures { ServesUnbound (config_of width height name.now rects_per_update) viewers self.old self.new result }
@@ -403,7 +408,7 @@ impl ServerDesk {
     /// The descriptor is the desk's then, which closes it once the viewer has gone; and it is closed at once where the answer is below 0, but
     /// for two codes behind which it stays the program's: `SHUT`, and `BAD_SOCKET` where it is no socket, or isn't connected. `FULL` where as
     /// many viewers are connected as were granted: it is told so (RFC 6143, 7.1.2). `CANNOT_ADOPT` where the system or memory refuses to
-    /// have it watched, `NETWORK_FAILED` where it can't be made not to wait, and `CLOCK_FAILED`.
+    /// have it watched, `NETWORK_FAILED` where it can't be made not to wait or the network fails, `CLOCK_FAILED`, and `OutOfMemory`'s code.
     pub fn adopt(&mut self, fd: i32) -> i64
         ensures { Adopts fd self.old self.new result }
     {
@@ -426,8 +431,8 @@ impl ServerDesk {
         adopt_code(answer)
     }
 
-    /// Lets a viewer go in a later turn, by `EventLoop::close_viewer` (`rfbCloseClient` of `rfb.h`). Returns `NoViewer`'s code where none
-    /// has the number.
+    /// Lets a viewer go by `EventLoop::close_viewer` (`rfbCloseClient` of `rfb.h`): its connection is closed in the next turn. Returns 0,
+    /// or the code of `NoViewer` where none has the number, or that of `OutOfMemory`.
     pub fn close_viewer(&mut self, viewer: u64) -> i32
         ensures { LetsGo viewer self.old self.new result }
     {
@@ -439,7 +444,8 @@ impl ServerDesk {
 
     /// Puts the address that a viewer's connection comes from, in digits as `127.0.0.1` or `::1`, at the room's start, as much of it as
     /// fits (`host` of `rfbClientRec` in `rfb.h`). Returns how many bytes that are; the rest of the room stays. Returns `NoViewer`'s code
-    /// where it isn't connected, and `NETWORK_FAILED` where the system doesn't tell.
+    /// where it isn't connected, `OutOfMemory`'s where memory for the digits is refused, and `NETWORK_FAILED` where the system doesn't
+    /// tell, as of a socket of UNIX.
     pub fn viewer_address(&mut self, viewer: u64, room: &mut [u8]) -> i32
         ensures { TellsAddress viewer self.old self.new room.old room.new result }
     {

@@ -17,7 +17,8 @@ use event_loop::{Region, drawn_is_served};
 use screen::Drawing;
 
 impl ServerDesk {
-    /// Returns the places of a list of rectangles, or the code of the refusal: `OUT_OF_RANGE` where a coordinate is not from -2^20 to 2^20.
+    /// Returns the places of a list of rectangles, or the code of the refusal: `SHUT`, then `OUT_OF_RANGE` where a coordinate is not from
+    /// -2^20 to 2^20, then that of `OutOfMemory`.
     fn places_of(&self, list: &[Corners]) -> Result<Region, i32>
         ensures places { IfOk result (λ region. IsListOf (map rect_of list.now) region.list) }
         ensures accepted { OnOk result (region_due self.now (map rect_of list.now) ≡ None) }
@@ -38,8 +39,8 @@ impl ServerDesk {
     /// Takes a program's own pixels into the picture by `Canvas::take` (`rfbMarkRectAsModified` of `rfb.h`), from column `left` of row
     /// `top` on, and owes every viewer what differs. `bytes` has `width` columns and `height` rows of pixels, `stride` bytes from one row
     /// to the next; their format is a layout, or a table of colours, or where both are empty 32 bits `0x00RRGGBB` in little-endian order.
-    /// What lies off the screen is left out. Returns how many places changed; where memory is refused, each place has its old colour or its
-    /// new one.
+    /// What lies off the screen is left out. Returns how many places changed, at most 2^62, or `BAD_FORMAT`, `BAD_STRIDE` or
+    /// `TOO_FEW_BYTES`; or `OutOfMemory`'s code, after which each place has its old colour or its new one.
     pub fn update_from(
         &mut self,
         left: u32,

@@ -50,7 +50,7 @@ impl ServerDesk {
         fetch_visits(&mut self.visits, room) as i64
     }
 
-    /// Returns how many inputs, comings and goings were lost since `listen`, at most 2^62.
+    /// Returns how many inputs, comings and goings were lost since `listen` or `serve`, at most 2^62.
     pub fn lost_count(&mut self) -> i64
         ensures { Tells (λ _. pos (min self.old.lost (2 ^ 62))) self.old self.new result }
     {
@@ -60,9 +60,9 @@ impl ServerDesk {
         self.lost.min(1 << 62) as i64
     }
 
-    /// Returns how often, since `listen`, a viewer was heard to ask for places whether these changed or not, by a request that isn't
-    /// incremental (RFC 6143, 7.5.3; `clientFramebufferUpdateRequestHook` of `rfb.h` is called for each request): more than before where
-    /// one did in the last turns. At most 2^62. `settings` tells how many of a viewer's requests were such.
+    /// Returns how often, since `listen` or `serve`, a viewer was heard to ask for places whether these changed or not, by a request that
+    /// isn't incremental (RFC 6143, 7.5.3; `clientFramebufferUpdateRequestHook` of `rfb.h` is called for each request): more than before
+    /// where one did in the last turns. At most 2^62. `settings` tells how many of a viewer's requests were such.
     pub fn full_request_count(&mut self) -> i64
         ensures { Tells (λ _. pos (min self.old.full_requests (2 ^ 62))) self.old self.new result }
     {
@@ -83,7 +83,7 @@ impl ServerDesk {
         }
     }
 
-    /// Returns the port that it listens on.
+    /// Returns the port of `listen`; 0 where the server began by `serve`. Further ports are told by the calls that listen there.
     pub fn port(&mut self) -> i32
         ensures { Tells (λ _. pos self.old.port) self.old self.new result }
     {

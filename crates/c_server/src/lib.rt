@@ -32,8 +32,8 @@ pub use c_screen::{
     SHUT, TOO_FEW_BYTES, Told, code_of, fault_code,
 };
 pub use codes::{
-    BAD_ADDRESS, BAD_SOCKET, CANNOT_ADOPT, CANNOT_LISTEN, CLOCK_FAILED, FULL, NETWORK_FAILED,
-    TOO_MANY_PORTS,
+    BAD_ADDRESS, BAD_SOCKET, CANNOT_ADOPT, CANNOT_LISTEN, CANNOT_RECORD, CLOCK_FAILED, FULL,
+    NETWORK_FAILED, TOO_MANY_PORTS,
 };
 pub use desk::ServerDesk;
 pub use visits::Visit;

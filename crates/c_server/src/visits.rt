@@ -16,9 +16,9 @@ pub struct Visit {
     /// 1 where it came, 2 where it went.
     pub kind: u32,
     /// Why it went: 1 it closed its connection, 2 it said what no message says, 3 a read failed, 4 a write failed, 5 memory was
-    /// refused for it, 7 it took too long for its opening.
+    /// refused for it, 6 `close_viewer` let it go, 7 it took too long for its opening, 9 its browser sent what no frame is.
     pub reason: u32,
-    /// By which fault, as `fault_code` has it, where the reason is 2.
+    /// By which fault, as `fault_code` has it, where the reason is 2; where it is 9, the code of the close that it was sent.
     pub fault: i32,
 }
 

@@ -59,7 +59,7 @@ fn append(all: &mut Vec<u8>, bytes: &[u8]) -> Result<(), AllocError>
 pub enum Written {
     /// Bytes were taken.
     Some,
-    /// The transport takes none now.
+    /// The transport takes none now, or the write was interrupted.
     Blocked,
     /// The transport failed, or takes no more.
     Failed,

@@ -398,7 +398,8 @@ impl<T: Transport> Connection<T> {
         }
     }
 
-    /// Reads once, at the time `now` in milliseconds. At its end, and where the transport failed, it has ended.
+    /// Reads once, at the time `now` in milliseconds. At its end, where the transport failed, and where the peer did what its transport
+    /// doesn't allow, it has ended.
     #[tactic(auto, using(crate::proofs::Reading::full_as_known))]
     pub fn receive(&mut self, buffer: &mut [u8], now: u64) -> Got
         ensures same { self.new ≡ record self.old { carried = self.new.carried; ended = ended_by_read result self.old.ended; known = known_by_read result self.new.known.was_full now self.old.known } }
@@ -451,8 +452,8 @@ impl<T: Transport> Connection<T> {
         self.heard.append(piece);
     }
 
-    /// Takes in what an input changes in what the viewer holds down. Before it lets the earliest key go where no other could go down, and
-    /// returns its release.
+    /// Takes in what an input changes in what the viewer holds down. Before that it lets the earliest key go where no other could go down,
+    /// and returns its release.
     pub fn hold(&mut self, input: &Input) -> Option<Input>
         ensures same { self.new ≡ record self.old { held = self.new.held } }
         ensures held { self.new.held ≡ after (roomy self.old.held) input.now }
@@ -491,7 +492,8 @@ impl<T: Transport> Connection<T> {
         self.backlog.start(update);
     }
 
-    /// Writes what waits once, 64 KB at most, where it was not broken off. A failure ends it.
+    /// Writes what waits once, 64 KB at most. A failure ends it, and so does memory that is refused. What was written, and then what waits,
+    /// is what waited before, unless it has broken off then.
     pub fn write(&mut self, buffer: &mut Vec<u8>)
         ensures same { self.new ≡ record self.old { carried = self.new.carried; waiting = self.new.waiting; ended = self.new.ended; known = record self.old.known { may_write = self.new.known.may_write } } }
         ensures sent { (written unwritten : List ℕ) × Moves self.old.carried self.new.carried [] written ×

@@ -30,7 +30,8 @@ impl<T: Transport> Connections<T> {
         self.agenda.get(index)
     }
 
-    /// Returns whether a connection may say more, and its last read filled the buffer, or it said much of late.
+    /// Returns whether a connection may say more, and its last read filled the buffer or left more to be read at once, or it said much of
+    /// late.
     fn is_flooding(&self, key: usize) -> bool
         ensures { result ≡ floods_at self.now.slots key }
     {

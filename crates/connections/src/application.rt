@@ -83,7 +83,7 @@ pub trait Application {
         Ok(false)
     }
 
-    /// Returns whether the loop is to end. It is asked before each turn.
+    /// Returns whether the loop is to end. `EventLoop::run` asks it before each turn.
     fn is_done(&self) -> bool
         ensures told { result ≡ true → done self.now }
     {

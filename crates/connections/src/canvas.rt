@@ -58,6 +58,7 @@ fn is_notice(drawing: &Drawing<'_>) -> bool
 }
 
 impl Canvas {
+    /// Returns a canvas of the screen, recorded by `recorder`, on which nothing was drawn yet.
     pub(crate) fn new(screen: Screen, recorder: Record) -> Canvas
         ensures screen { result.screen ≡ screen }
         ensures recorded { result.scribed ≡ recorder }

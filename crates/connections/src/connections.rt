@@ -412,7 +412,8 @@ impl<T: Transport> Connections<T> {
         connection.note(found);
     }
 
-    /// Lets a viewer go, as one that was closed (`Ended::Closed`), once what waits for it is written; nobody where none has the key.
+    /// Lets a viewer go, as one that was closed (`Ended::Closed`), once what waits for it is written; nobody where none has the key. After
+    /// an `AllocError` nothing has changed.
     pub fn close(&mut self, key: usize) -> Result<(), AllocError>
         ensures served { GoesOn self.old self.new }
         ensures same { self.new ≡ record self.old { slots = self.new.slots; agenda = self.new.agenda } }
@@ -426,7 +427,7 @@ impl<T: Transport> Connections<T> {
     }
 
     /// Lets a viewer go at once, as one that the application refused (`Ended::Gate`): what waits for it isn't written. Nobody where none
-    /// has the key.
+    /// has the key. After an `AllocError` nothing has changed.
     pub fn refuse(&mut self, key: usize) -> Result<(), AllocError>
         ensures served { GoesOn self.old self.new }
         ensures same { self.new ≡ record self.old { slots = self.new.slots; agenda = self.new.agenda } }
@@ -454,11 +455,11 @@ impl<T: Transport> Connections<T> {
     }
 
     /// Takes one turn. Of each connection on the agenda it reads and hears one piece of at most 128 bytes, and tells the application what
-    /// that says. Of those whose last read gave so many, or that said more than 64 KB of late, only one is heard in a turn, in the order
-    /// in which they wait; and while others have something to do, eight turns after the one before it, or 32 where it said so much.
-    /// Then it writes to each what it was given, and cuts updates, in at most four writes of at most 65,536 bytes.
+    /// that says. Of those whose last read gave so many or left more to be read at once, or that said more than 64 KB of late, only one is
+    /// heard in a turn, in the order in which they wait; and while others have something to do, eight turns after the one before it, or 32
+    /// where it said so much. Then it writes to each what it was given, and cuts updates, in at most four writes of at most 65,536 bytes.
     ///
-    /// Then nothing is noted as drawn, and only those are on the agenda for whom something can be done at once.
+    /// Then, unless an error ended it, nothing is noted as drawn, and only those are on the agenda for whom something can be done at once.
     ///
     /// Whatever list of events the screen stood for, it stands for it with others behind it, and by that list each viewer is served:
     /// what was read of it is what the screen heard of it, and what was written to it is, with what waits for it, what the screen with

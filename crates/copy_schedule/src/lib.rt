@@ -1,10 +1,11 @@
 //! One viewer's marks of the places of a framebuffer: what the viewer lacks of it, what it may copy on its own side, what it
 //! asked for, and so what the next update sends by CopyRect and what by pixels.
 //!
-//! Each call is one equation with a definition of `specs/Marks.antt`. The rectangles that an update sends are the first ones of
-//! the canonical list of a set of places: its rows in maximal bands of equal contents, each band in maximal intervals.
+//! Each call is one equation with a definition of `specs/Marks.antt`, or of `specs/Log.antt` for a log. The rectangles that an update
+//! sends are the first ones of the canonical list of a set of places: its rows in maximal bands of equal contents, each band in maximal
+//! intervals.
 //!
-//! `marks` holds three regions: the owed, the copied and the asked places. `sets` has set operations, of which `windows` finds
+//! `marks` holds three regions: the owed, the copied and the asked places. `sets` has set operations, for which `windows` finds
 //! a rectangle's part of a screen; `mark_sets` has what drawing and requests do to the owed and the copied places, and `chosen` what
 //! an update sends. `log` has drawing that a viewer's marks lack yet: a list of entries, as several viewers share it, of which
 //! each may catch up later. Every call makes its new regions first and then puts them in place, so a refused one changes nothing.

@@ -91,7 +91,9 @@ impl Model for Prepared {
 /// What an update sends, and the marks that it would leave, ready for `Marks::commit`.
 #[derive(Drop)]
 pub struct PreparedCut {
+    /// What the update sends.
     pub cut: Cut,
+    /// The marks that it would leave.
     pub marks: Prepared,
 }
 
@@ -244,7 +246,7 @@ impl Marks {
     /// Notes that a copy drew `region` with the pixels of the places less (`dx`, `dy`) (`rfbScheduleCopyRegion` of `rfb.h`). If
     /// `uses_copyrect`, places that await pixels by another offset first become owed, and so do those from which this copy takes
     /// pixels that they still await; then the viewer may copy those of the region's places itself that aren't owed and whose
-    /// sources aren't. The other places of the region become owed.
+    /// sources aren't. The other places of the region become owed, and so do places that await pixels already whose sources are owed.
     ///
     /// The region is on the screen with its sources. It is meant to have places, and the offset not to be (0, 0). After an
     /// `AllocError` the marks are as they were.

@@ -36,14 +36,14 @@ use std::os::fd::{AsRawFd, RawFd};
 use std::time::{Clock, Duration, Instant};
 use web_opening::Admission as LetIn;
 
-/// Why a loop ended, or didn't listen.
+/// Why a loop wasn't made, ended, or didn't listen.
 #[derive(Clone, Copy, Debug, PartialEq, Eq)]
 pub enum LoopError {
     /// The poller failed.
     Network,
     /// The clock failed, or `run` took 2^64 - 1 turns.
     Clock,
-    /// The application's call of the screen was refused, or memory was.
+    /// The configuration or the application's call of the screen was refused, or memory was.
     Screen(ScreenError),
     /// Eight listeners for viewers are there already.
     TooManyListeners,
@@ -144,7 +144,8 @@ fn entrance_of(
 
 impl EventLoop {
     /// Returns a loop that serves a screen on a listener's address: 0 everywhere, with no viewer yet. Viewers are numbered from 1 on, as
-    /// they come. Refused as `Screen` where the configuration is outside its limits, then as `Network` where the poller is.
+    /// they come. Refused as `Screen` where the configuration is outside its limits or memory is refused, and as `Network` where the poller
+    /// is.
     pub fn new<R: Net>(
         rt: &R,
         alloc: Global,
@@ -182,7 +183,7 @@ impl EventLoop {
         }
     }
 
-    /// Returns a loop that listens nowhere: it serves the connections that `adopt` gives it.
+    /// Returns a loop that listens nowhere: it serves the connections that `adopt` gives it. Refused as `new` is.
     pub fn unbound<R: Net>(
         rt: &R,
         alloc: Global,
@@ -371,6 +372,7 @@ impl EventLoop {
     }
 
     /// Returns what ends a wait from another thread: the application is told that it was woken. One loop has one waker.
+    /// Fails where the system refuses it.
     pub fn waker(&self) -> io::Result<Waker> {
         self.poller.waker()
     }
@@ -420,7 +422,8 @@ impl EventLoop {
     }
 
     /// Returns how long a turn without a timeout would wait now, where no socket becomes ready; None without end. A program with a loop of
-    /// its own takes a turn after this time, or once the loop's handle (`AsRawFd`) is ready to be read.
+    /// its own takes a turn after this time, or once the loop's handle (`AsRawFd`) is ready to be read. Fails as `Clock` where the
+    /// clock does.
     pub fn longest_wait<C: Clock>(&self, clock: &C) -> Result<Option<Duration>, LoopError> {
         let now = now_by(clock)?;
         Ok(self.wait_for(now, None))

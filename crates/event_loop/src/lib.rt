@@ -11,8 +11,9 @@
 //! ```
 //!
 //! A loop without a listener is made by `EventLoop::unbound`. Any loop listens further by `EventLoop::listen`, or at a socket of UNIX by
-//! `EventLoop::listen_unix`, and takes in connections that the program has by `EventLoop::adopt`. `EventLoop::listen_web` lets browsers in by a listener of their own, over WebSockets
-//! (RFC 6455). `EventLoop::watch` has the application told where a stream of the program's own is ready.
+//! `EventLoop::listen_unix`, and takes in connections that the program has by `EventLoop::adopt`. `EventLoop::listen_web` lets browsers in
+//! by a listener of their own, over WebSockets (RFC 6455). `EventLoop::watch` has the application told where a stream of the program's own
+//! is ready.
 //!
 //! What a viewer is sent is what its stream is written, whatever stream that is, and nothing else; no clause says what a socket delivers,
 //! or when: tests over loopback show it.

@@ -23,7 +23,7 @@ const ACTIVE: u64 = 5;
 /// In how many milliseconds one connection is accepted, while a viewer is active.
 const APART: u64 = 1;
 
-/// How many milliseconds ahead of that they may be who come at once: 64 of them.
+/// How many milliseconds ahead of that they may be who come at once: 65 of them, the first one being none ahead.
 const AHEAD: u64 = 64 * APART;
 
 /// What the poller found besides what is a connection's.
@@ -117,8 +117,8 @@ impl EventLoop {
         self.active.is_some_and(|then| now.duration_since(then) < Duration::from_millis(ACTIVE))
     }
 
-    /// Returns how long who comes is to wait. Nobody waits while no viewer is active. Else it is one in a millisecond behind the first 64, so that
-    /// who comes takes little of an active viewer's time, however many they are.
+    /// Returns how long who comes is to wait. Nobody waits while no viewer is active. Else it is one in a millisecond behind the first 65,
+    /// so that who comes takes little of an active viewer's time, however many they are.
     fn pause(&self, now: Instant) -> Duration {
         match self.next_due {
             Some(due) if self.is_active_at(now) => due
@@ -339,8 +339,8 @@ impl EventLoop {
         self.entrance.accept_browser(&self.poller, now);
     }
 
-    /// Returns a connection that waited at a listener for viewers. None where none waits, and where the system has no room for one: then
-    /// it is asked again a little later.
+    /// Returns a connection that waited at a listener for viewers. None where none waits; where those that waited are gone: then others may
+    /// wait still; and where the system has no room for one: then it is asked again a little later.
     fn next_stream(&mut self, now: Instant) -> Option<TcpStream>
         ensures same { self.new ≡ self.old }
     {

@@ -242,9 +242,9 @@ impl InputHub {
         self.ends.close();
     }
 
-    /// Gives back the seats, takes what is left, and gives back the taker. Where these are all seats that
-    /// the hub made and no two have one viewer, each viewer's inputs, those taken and then those left, are
-    /// what its seat accepted, in order.
+    /// Gives back the seats, takes what is left, and gives back the taker. Where these are all seats that the hub made and no two have one
+    /// viewer, each viewer's inputs, those taken and then those left, are what its seat accepted, in order. `AllocError` where memory for
+    /// what is left is refused; then that is lost.
     pub fn join<R: Wait>(
         self,
         rt: &R,

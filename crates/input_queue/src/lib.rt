@@ -20,7 +20,9 @@ pub use std::alloc::AllocError as OutOfMemory;
 /// An input, and the viewer that it is from.
 #[derive(Debug, Drop)]
 pub struct Told {
+    /// The viewer's number.
     pub viewer: u64,
+    /// What it did.
     pub input: Input,
 }
 
@@ -51,5 +53,6 @@ pub struct Full(pub Input);
 /// What was left in the queue, in order.
 #[derive(Debug, Drop)]
 pub struct Left {
+    /// The inputs, the first one first.
     pub items: Listed<Told>,
 }

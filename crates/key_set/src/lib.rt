@@ -139,7 +139,8 @@ impl KeySet {
         }
     }
 
-    /// Reserves memory for all keys up to `key`, so that none of these needs any when it comes.
+    /// Reserves memory for any key up to `key`: for one more, and for all of them where no greater one is there. `AllocError` where memory
+    /// is refused, or `key` is `usize::MAX`.
     #[tactic(auto, using(crate::proofs::Among::flagged_same))]
     pub fn make_room(&mut self, key: usize) -> Result<(), AllocError>
         ensures room { OnOk result ((k : ℕ) → k ≤ key → HasRoom k self.new) }

@@ -13,8 +13,8 @@ use std::marker::Model;
 
 /// What hears a viewer: where its conversation stands, and what is kept of a message that hasn't ended.
 ///
-/// Contracts see it as what is kept of the bytes that it has heard. Of a list of encodings that is no more than its count,
-/// how many have come and what they gave, and of a text at most its first 262,144 bytes.
+/// Contracts see it as what is kept of the bytes that it has heard. Of a list of encodings that is its count, how many have come, what
+/// they gave and the bytes of the next one; of a text its length, how many bytes have come, and at most the first 262,144 of them.
 #[derive(Drop)]
 pub struct Ear {
     phase: Phase,

@@ -22,8 +22,8 @@ pub struct Reading {
     pub items: Vec<Item>,
 }
 
-/// Returns where a conversation stands behind `item` (RFC 6143 sections 7.1 to 7.3 and appendix A): version 3.3 has no choice, and an
-/// item that the phase doesn't expect changes nothing.
+/// Returns where a conversation stands behind `item` (RFC 6143 sections 7.1 to 7.3 and appendix A): version 3.3 has no choice. A
+/// version is taken at any phase; any other item that the phase doesn't expect changes nothing.
 pub fn phase_after(phase: Phase, item: &Item) -> Phase
     ensures { result ≡ after phase item.now }
 {

@@ -51,7 +51,7 @@ pub struct Picture {
     encoded: Vec<Encoded>,
     growing: Option<Growing>,
     kinds: Kinds,
-    // so many updates were cut since one found its bytes
+    // so many updates that were worth it were cut since one found its bytes, or since some were kept
     unused: u32,
 }
 
@@ -95,7 +95,7 @@ fn are_many(rects: &[Rect]) -> bool {
     FEW <= places
 }
 
-/// Tells whether rectangles are worth to be encoded once for viewers that are alike: they have some places, and aren't copied as they
+/// Tells whether rectangles are worth being encoded once for viewers that are alike: they have some places, and aren't copied as they
 /// stand.
 fn are_worth_it(encoding: Encoding, format: &PixelFormat, rects: &[Rect]) -> bool {
     are_many(rects) && !(encoding == Encoding::Raw && format.has_server_components())

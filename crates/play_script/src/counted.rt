@@ -1,4 +1,5 @@
-//! A reader whose reads are counted. No other function of the crate but `play_counted` has the reader itself.
+//! A reader whose reads are counted. Only `play_over`, `play_uncounted` and `play_counted` are given the reader itself, and none of them
+//! reads from it.
 ghost use Rattle.std.specs.Prelude.{◌≡◌, ◌+◌};
 ghost use Rattle.std.specs.Io.{ReadsAtMost};
 ghost use Rattle.std.specs.Io.KnownBytes.{ReadConsumes};

@@ -26,7 +26,7 @@ const DIGIT_VALUES: [u8; 256] = [
     36, 36, 36, 36, 36, 36, 36, 36, 36, 36, 36, 36, 36, 36, 36, 36,
 ];
 
-// Returns the value of a digit; 36 of any other byte.
+/// Returns the value of a digit; 36 of any other byte.
 pub fn digit_value(byte: u8) -> u32
     ensures { result ≡ digit_value byte }
 {
@@ -51,7 +51,7 @@ fn all_digits(word: &[u8], base: u32) -> bool
     word.iter().all(|digit| digit_value(*digit) < base)
 }
 
-// Returns whether a word has digits of `base`, and nothing else.
+/// Returns whether a word has digits of `base`, and nothing else.
 pub fn are_digits(word: &[u8], base: u32) -> bool
     ensures { result ≡ are_digits base word.now }
 {
@@ -75,7 +75,7 @@ fn group_value(word: &[u8], size: usize, place: usize) -> u32
     value_of(&word[start..start + size])
 }
 
-// Returns the bytes that a word spells, two digits each, and no bytes for `-`; else None.
+/// Returns the bytes that a word spells, two digits each, and no bytes for `-`; else None. `AllocError` if memory is refused.
 pub fn hex_bytes(alloc: Global, word: &[u8]) -> Result<Option<Vec<u8>>, AllocError>
     ensures { IfOk result (λ found. option_map (λ bytes. bytes.items) found ≡ bytes_of word.now) }
 {
@@ -92,7 +92,7 @@ pub fn hex_bytes(alloc: Global, word: &[u8]) -> Result<Option<Vec<u8>>, AllocErr
     Ok(Some(bytes))
 }
 
-// Returns the colours that a word spells, six digits each, and no colours for `-`; else None.
+/// Returns the colours that a word spells, six digits each, and no colours for `-`; else None. `AllocError` if memory is refused.
 pub fn hex_colours(alloc: Global, word: &[u8]) -> Result<Option<Vec<u32>>, AllocError>
     ensures { IfOk result (λ found. option_map (λ colours. colours.items) found ≡ colours_of word.now) }
 {

@@ -9,11 +9,17 @@ use std::io::Write;
 /// Why a script was not played to its end, or viewers were not served to theirs.
 #[derive(Clone, Copy)]
 pub enum Trouble {
+    /// Memory was refused.
     OutOfMemory,
+    /// A read failed.
     ReadFault,
+    /// The script has more than 2^24 bytes.
     TooLong,
+    /// The system refused something of the network.
     NetworkFault,
+    /// The record of the session has ended before it.
     RecordBroken,
+    /// A write failed.
     WriteFault,
 }
 

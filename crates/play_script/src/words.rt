@@ -6,7 +6,7 @@ ghost use Rattle.play_script.specs.Words.{signed as signed_of, viewer_number as 
 
 use crate::hex::{are_digits, digit_value};
 
-/// The largest number of a script.
+/// The largest number of a script, but for a viewer's.
 pub const NUMBER_LIMIT: u32 = 0x7fff_ffff;
 
 fn place_of(text: &[u8], separator: u8) -> Option<usize>
@@ -86,7 +86,7 @@ fn number_up_to(word: &[u8], limit: u64) -> Option<u64>
     if value <= limit { Some(value) } else { None }
 }
 
-// Reads a number of at most 2^31 - 1.
+/// Reads a number of at most 2^31 - 1.
 pub fn number(word: &[u8]) -> Option<u32>
     ensures value { result ≡ number_of word.now }
     ensures small { IfSome result (λ n. n < 2 ^ 31) }
@@ -95,7 +95,7 @@ pub fn number(word: &[u8]) -> Option<u32>
     Some(value as u32)
 }
 
-// Reads a number, negative or not, of at most 2^31 - 1 without its sign.
+/// Reads a number, negative or not, of at most 2^31 - 1 without its sign.
 pub fn signed(word: &[u8]) -> Option<i32>
     ensures { result ≡ signed_of word.now }
 {
@@ -105,7 +105,7 @@ pub fn signed(word: &[u8]) -> Option<i32>
     }
 }
 
-// Reads a viewer's number.
+/// Reads a viewer's number, below 2^64.
 pub fn viewer_number(word: &[u8]) -> Option<u64>
     ensures { result ≡ viewer_number_of word.now }
 {

@@ -29,7 +29,7 @@ pub enum Ended {
     WriteFailed,
     /// A growth was refused.
     Memory,
-    /// The gate refused.
+    /// The gate refused, or the application let the viewer go at once.
     Gate,
     /// The viewer was closed.
     Closed,
@@ -75,9 +75,9 @@ pub struct Receipt {
     pub pieces: u64,
     /// How many updates were cut.
     pub cuts: u64,
-    /// The bytes that were heard.
+    /// The bytes that were heard, where the history is kept; else none.
     pub heard: Listed<u8>,
-    /// The bytes that were sent, the server's version first.
+    /// The bytes that were sent, the server's version first, where the history is kept; else none.
     pub sent: Listed<u8>,
     /// Why the viewer's sender ended, or its reader where that ended before the viewer was open.
     pub ended: Ended,

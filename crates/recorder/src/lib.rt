@@ -1,6 +1,6 @@
 //! What happens to a screen, written as it happens: a line for its configuration, and a line for each event, in the language of
-//! `vncdemo play`. What that language can't say has lines of its own: `desktop` for a name with blanks, `marks`, `schedules` and
-//! `docopies` for regions of no rectangle or of several.
+//! `vncdemo play`. What that language can't say has lines of its own: `desktop` for a name with a blank or a line feed and for the name
+//! `-`, `marks`, `schedules` and `docopies` for regions of no rectangle or of several.
 //!
 //! ```
 //! let mut recorder = Recorder::new(alloc, file, &config)?; // screen 640 480 demo 50

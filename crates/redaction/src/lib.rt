@@ -7,7 +7,7 @@
 //!
 //! ```
 //! let mut redactor = Redactor::new(alloc);
-//! while let Some(event) = session.next_event()? {
+//! for event in events {
 //!     let event = redactor.redacted(event)?;
 //!     ..
 //! }

@@ -30,8 +30,8 @@ fn pass(bands: &mut Reader, most: usize) {
     }
 }
 
-// Says whether `first` has few bands to read beside `second`: no more than 8, or a quarter of them. Reads both as far as it
-// takes to know.
+// Says whether `first` has few bands to read beside `second`: at most 8 more than a quarter of them, rounded up. Reads both as far as
+// it takes to know.
 fn has_few(first: &mut Reader, second: &mut Reader) -> bool {
     pass(first, 8);
     'bands: while first.first_rows().is_some() {

@@ -95,8 +95,8 @@ fn close_anew(bands: &mut BandList, is_open: bool, interval: Interval) -> Result
 }
 
 /// Makes the row in the making: the columns that `keep` keeps of what is left of the two readers' first bands. Reads these to
-/// their rows' ends, and makes the room as the row grows. Promises nothing of the bands after an `AllocError`: they are of no
-/// more use.
+/// their rows' ends, and makes the room as the row grows. After an `AllocError` the row may be made in part; the bands are as they
+/// were.
 pub fn merge_row(
     bands: &mut BandList,
     first: &mut Reader,

@@ -36,7 +36,9 @@ pub enum Question {
 /// A question, and how many lines of the session are read, at most.
 #[derive(Clone, Copy, Debug)]
 pub struct Asked {
+    /// What is asked.
     pub question: Question,
+    /// How many lines are read at most.
     pub lines: u64,
 }
 

@@ -26,38 +26,49 @@ fn rects_of(region: &Region) -> Result<Listed<Rect>, AllocError>
 /// One drawing call with what it draws. Rectangles are as they were given.
 #[derive(Drop)]
 pub enum Drawing<'a> {
+    /// The colours of a rectangle are replaced by others, row by row, and no viewer is told.
     Write {
         rect: Rect,
         colours: &'a [u32],
     },
+    /// The same, and the rectangle is owed to every viewer.
     Paint {
         rect: Rect,
         colours: &'a [u32],
     },
+    /// A rectangle is owed to every viewer (`rfbMarkRectAsModified` of `rfb.h`).
     MarkRect(Rect),
+    /// A region is owed to every viewer (`rfbMarkRegionAsModified` of `rfb.h`).
     MarkRegion(&'a Region),
+    /// Viewers are told that a rectangle gets the colours of the places (dx, dy) before it (`rfbScheduleCopyRect` of `rfb.h`).
     ScheduleCopyRect {
         rect: Rect,
         dx: i32,
         dy: i32,
     },
+    /// The same of a region (`rfbScheduleCopyRegion` of `rfb.h`).
     ScheduleCopyRegion {
         region: &'a Region,
         dx: i32,
         dy: i32,
     },
+    /// A rectangle gets the colours of the places (dx, dy) before it, and viewers are told (`rfbDoCopyRect` of `rfb.h`).
     DoCopyRect {
         rect: Rect,
         dx: i32,
         dy: i32,
     },
+    /// The same of a region (`rfbDoCopyRegion` of `rfb.h`).
     DoCopyRegion {
         region: &'a Region,
         dx: i32,
         dy: i32,
     },
+    /// A bell for every open viewer (`rfbSendBell` of `rfb.h`).
     Bell,
+    /// A text for every open viewer (`rfbSendServerCutText` of `rfb.h`).
     CutText(&'a [u8]),
+    /// The framebuffer is replaced by one of this size that is 0 everywhere (`rfbNewFramebuffer` of `rfb.h`).
     NewFramebuffer {
         width: u32,
         height: u32,

@@ -69,7 +69,7 @@ pub enum History {
     NotKept,
 }
 
-/// Why a call is refused. Nothing has changed then. Its text is the variant's name.
+/// Why a call is refused. Nothing has changed then, but for what `Screen::take` says. Its text is the variant's name.
 #[derive(Clone, Copy, Debug, PartialEq, Eq, Error)]
 pub enum ScreenError {
     /// The width or the height is not from 1 to 8192, or there are more than 2^24 places: make a smaller screen.

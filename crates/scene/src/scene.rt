@@ -32,7 +32,8 @@ use std::marker::Model;
 use viewer::{LogEntry, PreparedUpdate, Settings, Update};
 use viewer_list::ViewerList;
 
-/// One framebuffer, drawn in by the application, and its viewers.
+/// One framebuffer, drawn in by the application, and its viewers. Besides what it says itself, each call that changes the scene may be
+/// refused as `OutOfMemory`; after a refusal nothing has changed.
 pub struct Scene {
     alloc: Global,
     config: Config,
@@ -67,7 +68,7 @@ impl Model for Scene {
 
 impl Scene {
     /// Returns a picture that is 0 everywhere, with no viewer. Refuses a configuration outside its limits as `BadSize`, `BadName` or
-    /// `BadRectLimit`, in this order.
+    /// `BadRectLimit`, in this order, and else for want of memory as `OutOfMemory`.
     pub fn new(alloc: Global, config: Config) -> Result<Scene, ScreenError>
         ensures made { IfOk result (λ scene. scene ≡ scene_after config []) }
         ensures refused { MatchOption (config_refusal config) (IsOkUnless result ScreenError.OutOfMemory) (λ e. result ≡ Err e) }
@@ -321,7 +322,7 @@ impl Scene {
     }
 
     /// Replaces the colours of a rectangle by others, `0x00RRGGBB` row by row, whose top bytes are cleared, and tells no viewer:
-    /// `mark_rect` and `mark_region` do. Refuses what `paint` refuses.
+    /// `mark_rects` and `mark_region` do. Refuses what `paint` refuses.
     pub fn write_pixels(&mut self, rect: Rect, colours: &[u32]) -> Result<(), ScreenError>
         ensures step { (config : Config) (list : List Event) → self.old ≡ scene_after config list →
             OnOk result (self.new ≡ scene_after config (list ++ Event.Write rect colours.now ∷ [])) }

@@ -3,7 +3,7 @@
 //! A viewer opens, asks for the framebuffer, and is sent the place that was painted red beside a black one:
 //!
 //! ```
-//! use screen::{Draw, Screen};
+//! use screen::{Draw, Rect, Screen};
 //!
 //! let mut screen = Screen::new(alloc, config)?; // 2 by 1
 //! screen.connect(1)?;

@@ -82,8 +82,8 @@ impl<W: Write + Drop> Scribe<W> {
         })
     }
 
-    /// Puts bytes behind what was put. They wait in the buffer, and are written where it is full or has no room for them. Where something
-    /// is lost, they are too.
+    /// Puts bytes behind what was put. They wait in the buffer; where it has no room for them, what waits is written first, and they too
+    /// where they are more than it takes. Where something is lost, they are too.
     ///
     /// No clause says that bytes are lost only where a write failed: the contract of `Write` doesn't tell what a writer that fails holds
     /// from one that is never asked.

@@ -317,8 +317,8 @@ fn accept_by<'s, E, L: Ledger + Send + Sync + 's, R: Threads + Wait + Clock + Sy
     }
 }
 
-/// Serves so many viewers, and gives their receipts by number once all have ended; fewer where the server was stopped, which ends those that
-/// are there.
+/// Serves so many viewers, and gives their receipts by number once all have ended; fewer where the server was stopped, which ends those
+/// that are there.
 fn serve_each<'s, E, L: Ledger + Send + Sync + 's, R: Threads + Wait + Clock + Sync + 's>(
     rt: &'s R,
     server: &Server<'s, L>,

@@ -8,7 +8,7 @@
 //!
 //! ```
 //! let (shared, mut brush) = Shared::<L>::new(alloc, blank, config)?;
-//! let mut application = Square::at(0, 0); // an Application
+//! let mut application = Square::on(WIDTH, HEIGHT, 0, 0); // an Application
 //! let receipts = serve_viewers(rt, alloc, &listener, &shared, &mut brush, 1, &mut application)?;
 //! ```
 #![tactic(auto)]

@@ -27,7 +27,7 @@ pub const INPUTS: usize = 65_536;
 pub enum ServeError {
     /// No thread that accepts could be started, or there was no descriptor to wake it by.
     Network,
-    /// A call of the screen was refused.
+    /// A call of the screen was refused, or memory was.
     Screen(ScreenError),
 }
 
@@ -307,9 +307,9 @@ where
     serve_by(rt, alloc, &door, shared, brush, plan, inputs, application)
 }
 
-/// Serves as `serve_viewers_with_queue` does, and ends early once `stop` is called: with the receipts of the viewers that came until then, numbered
-/// from 1 on, in order. All connections are shut then, and it returns as soon as all threads have ended, within a second unless the
-/// application takes longer for what it is told.
+/// Serves as `serve_viewers_with_queue` does, and ends early once `stop` is called: with the receipts of the viewers that came until then,
+/// numbered from 1 on, in order. All connections are shut then, and it returns as soon as all threads have ended, within a second unless
+/// the application takes longer for what it is told.
 pub fn serve_viewers_until<L, A, R>(
     rt: &R,
     alloc: Global,

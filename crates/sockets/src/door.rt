@@ -116,8 +116,8 @@ impl Door {
         Some(then.duration_since(now))
     }
 
-    /// Returns a connection that waited. None where none waits, and where the system has no room for one: then it is asked again a little
-    /// later.
+    /// Returns a connection that waited. None where none waits; where the one that waited is gone, or the call was interrupted: then
+    /// another may wait still; and where the system has no room for one: then it is asked again a little later.
     pub fn next_stream(&mut self, now: Instant) -> Option<TcpStream>
         ensures closed { self.old.may_accept ≡ false → result ≡ None }
         ensures some { IsSome result → self.new ≡ self.old }

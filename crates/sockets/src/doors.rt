@@ -112,8 +112,8 @@ impl Doors {
         self.doors.iter().any(|door| door.may_accept())
     }
 
-    /// Asks the listener whose turn it is, as `Door::next_stream` does, and then it is the turn of all others before it is asked again. So none is passed over,
-    /// however many come by another.
+    /// Asks the listener whose turn it is, as `Door::next_stream` does, and then it is the turn of all others before it is asked again. So
+    /// none is passed over, however many come by another.
     fn ask_next(&mut self, now: Instant) -> Option<TcpStream>
         ensures count { length self.new.doors.items ≡ length self.old.doors.items }
         ensures none { self.old.doors.items ≡ [] → (result ≡ None) × (self.new.doors.items ≡ []) }
@@ -126,7 +126,8 @@ impl Doors {
         stream
     }
 
-    /// Returns a connection that waited at one of them, which are asked in turn. None where none waits at any.
+    /// Returns a connection that waited at one of them, which are asked in turn, each once. None where none of them gives one, as
+    /// `Door::next_stream` says.
     pub fn next_stream(&mut self, now: Instant) -> Option<TcpStream>
         ensures count { length self.new.doors.items ≡ length self.old.doors.items }
     {

@@ -135,8 +135,9 @@ impl Entrance {
         self.viewers.may_accept() || self.may_accept_browser()
     }
 
-    /// Returns a viewer's connection that waited at one of the listeners, which are asked in turn. None where none waits at any, and where
-    /// the system has no room for one: then it is asked again a little later.
+    /// Returns a viewer's connection that waited at one of the listeners, which are asked in turn, each once. None where none waits at any;
+    /// where those that waited are gone: then others may wait still; and where the system has no room for one: then it is asked again a
+    /// little later.
     pub fn next_stream(&mut self, now: Instant) -> Option<TcpStream>
         ensures count { length self.new.viewers.doors.items ≡ length self.old.viewers.doors.items }
         ensures browsers { self.new.browsers ≡ self.old.browsers }

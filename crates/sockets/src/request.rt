@@ -97,8 +97,9 @@ impl<T: Transport + Peek> Request<T> {
         }
     }
 
-    /// Writes the answer, by which the server's first bytes go: so there is room for them, and a connection that takes less is over. One that
-    /// is refused is written nothing more, but is read from still: a connection that is closed before all is read is reset, and its answer lost.
+    /// Writes the answer, by which the server's first bytes go: so there is room for them, and a connection that takes less is over. One
+    /// that is refused is written nothing more, but is read from still: a connection that is closed before all is read is reset, and its
+    /// answer lost.
     #[tactic(auto, using(crate::proofs::RequestLemmas::written_whole))]
     fn answer(&mut self, alloc: Global, verdict: &Verdict) -> Step
         ensures { IsAnswer verdict.now result (known_of T.unread T.written self.old) (known_of T.unread T.written self.new) }

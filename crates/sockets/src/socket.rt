@@ -230,7 +230,7 @@ pub trait TakesLeave {
 
 /// A viewer's socket, over TCP or, for a browser, as a WebSocket on it (RFC 6455).
 pub enum Peer {
-    /// TCP.
+    /// TCP, or a socket of UNIX by its descriptor.
     Plain(Socket<TcpStream>),
     /// A WebSocket, whose state of half a kilobyte is kept apart.
     Browser(Box<Socket<WebStream<TcpStream>>>),
@@ -358,7 +358,8 @@ pub fn set_up<S: AsRawFd + SendsAtOnce>(socket: &S) {
     keep_alive(socket);
 }
 
-/// Tells a connection that there are too many. It is new, so there is room for these few bytes. Returns how many it took.
+/// Tells a connection that there are too many. It is new, so there is room for these few bytes. Returns how many it took. Fails where the
+/// version can't be written.
 ///
 /// The version is a write of its own, and so a frame: noVNC reads one message of an opening in each.
 pub fn turn_away<T: Transport>(transport: &mut T) -> io::Result<usize>

@@ -2,15 +2,19 @@
 //!
 //! ```
 //! let mut picture = SourcePicture::new(alloc, width, height);
-//! picture.draw(canvas, piece)?;
+//! let mut left = piece;
+//! while !left.is_empty() {
+//!     left = picture.draw(canvas, left)?;
+//! }
 //! if picture.request() != Request::None {
 //!     // request all of it, or what changes, and then
 //!     picture.asked();
 //! }
 //! ```
 //!
-//! The bytes come in pieces of any length. What they say is read by `server_reader`, and each step is done to the canvas at once: pixels are
-//! compared with the canvas, so that only what differs is painted. Bells and texts go to the viewers.
+//! The bytes come in pieces of any length. What they say is read by `server_reader`, and is on the canvas as `draw` returns; small areas
+//! that lie side by side wait until then, and are done together. Pixels are compared with the canvas, so that only what differs is
+//! painted. Bells and texts go to the viewers.
 #![tactic(auto)]
 
 mod asking;

@@ -15,9 +15,13 @@ pub const MOST_PLACES: usize = 16_384;
 /// The columns from one to below another, in the rows from one to below another.
 #[derive(Clone, Copy)]
 pub struct Band {
+    /// The first row.
     pub top: usize,
+    /// The row below the last.
     pub bottom: usize,
+    /// The first column.
     pub from: usize,
+    /// The column behind the last.
     pub to: usize,
     /// How many places its rows have from their first to their last that differs.
     pub spans: usize,
@@ -46,7 +50,7 @@ fn join(band: Band, row: Band) -> Band
 }
 
 /// Puts a row behind the bands above it, or joins it with the last where it lies directly below that one, and both are not far larger
-/// than what differs in them. Refused for want of memory alone.
+/// than what differs in them, nor too large for a cache. Refused for want of memory alone.
 pub(crate) fn add(bands: &mut Vec<Band>, row: Band) -> Result<(), AllocError>
     ensures { OnOk result (Adds bands.old.items row bands.new.items) }
 {

@@ -18,11 +18,15 @@ pub enum BytesPerPixel {
 /// component is what the pixel's number has above the component's shift, and its greatest value as a mask.
 #[derive(Clone, Copy, Debug, PartialEq, Eq)]
 pub struct TrueColour {
+    /// How many bytes a pixel has.
     pub bytes: BytesPerPixel,
     /// Whether a pixel's highest byte comes first.
     pub big_endian: bool,
+    /// Where red stands in the pixel's number.
     pub red: Component,
+    /// Where green does.
     pub green: Component,
+    /// Where blue does.
     pub blue: Component,
 }
 

@@ -61,8 +61,8 @@ fn vote_in_row(guess: &mut Guess, pixels: &Pixels, row: &[u32], first: usize, be
     }
 }
 
-/// Guesses the most frequent pixel, or the most frequent but `beside`: gives a vote to one in 128 pixels, and a pixel with more
-/// than half of the votes wins. It is only a guess.
+/// Guesses the most frequent pixel, or the most frequent but `beside`: gives a vote to one in 128 pixels of each row, or to one of a
+/// narrower row, and a pixel with more than half of the votes wins. It is only a guess.
 fn likely(pixels: &Pixels, beside: Option<u32>) -> u32 {
     let mut guess = Guess { pixel: 0, votes: 0 };
     let some = pixels.colours.width.min(128);

@@ -1,7 +1,7 @@
 //! A picture as a background and subrectangles of one pixel each, of which RRE and Hextile are made (RFC 6143, 7.7.3 and 7.7.4).
 //!
-//! An area is looked at in three steps, each of which ends as soon as RRE can't be shorter than Raw. First the places are
-//! counted that begin a subrectangle whatever the background is (`breaks`): in one row of 16, and where these let expect too many
+//! An area is looked at in three steps, of which the first and the last end as soon as RRE can't be shorter than Raw. First the places
+//! are counted that begin a subrectangle whatever the background is (`breaks`): in one row of 16, and where these let expect too many
 //! in one pass over all, or in two with 2 KB of counters. Then the background is found (`background`): guessed and tested in one
 //! pass or in two, or else counted in a table of the pixels that differ. Last the subrectangles are found row by row (`scan`),
 //! which goes over each place a bounded number of times, and are written to the output as they are found. Where a colour isn't its

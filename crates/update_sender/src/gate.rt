@@ -4,8 +4,8 @@ ghost use Rattle.std.specs.Prelude.{◌≡◌, ℕ, true};
 
 /// What `serve_sender` asks and tells, each time outside the lock. An answer of false ends the sender as `Ended::Gate`.
 ///
-/// A gate may say what its answers stand for, and what it was told: `serve_sender` says then of its updates that the gate let them pass, and
-/// was told how long they were.
+/// A gate may say what its answers stand for, and what it was told: `serve_sender` says then of its updates that the gate let them pass,
+/// and was told how long they were.
 pub trait Gate {
     /// That it let an update of a viewer be encoded.
     ghost lets_encode: { Self → ℕ → Type 0 } = { λ _ _. Unit {0} };

@@ -8,7 +8,7 @@ use receipts::Ended;
 use screen::{Fault, ScreenError};
 use std::io;
 
-/// Passes where a gate's answer is true.
+/// Passes where a gate's answer is true, and fails as `Gate` where it is false.
 pub fn passed(answer: bool) -> Result<(), Ended>
     ensures ends { MatchBool answer (IsOk result) (result ≡ Err ended.Gate) }
     ensures through { OnOk result (answer ≡ true) }
@@ -16,7 +16,7 @@ pub fn passed(answer: bool) -> Result<(), Ended>
     if answer { Ok(()) } else { Err(Ended::Gate) }
 }
 
-/// Returns what a read gave: how many bytes. None is the end of the reader.
+/// Returns how many bytes a read gave. Fails as `EndOfInput` where it gave none, and as `ReadFailed` where it failed.
 pub fn count_read(read: io::Result<usize>) -> Result<usize, Ended>
     ensures some { IfOk result (λ count. (read ≡ Ok count) × (0 < count)) }
     ensures none { IfErr result (λ e. MatchResult read (λ count. (count ≡ 0) × (e ≡ ended.EndOfInput)) (λ _. e ≡ ended.ReadFailed)) }
@@ -28,7 +28,7 @@ pub fn count_read(read: io::Result<usize>) -> Result<usize, Ended>
     }
 }
 
-/// Returns how many bytes a writer took of those that were due, before a write failed or took none.
+/// Passes where a writer took all bytes that were due. Fails as `WriteFailed` where it took fewer: a write failed, or took none.
 pub fn all_written(taken: usize, due: usize) -> Result<(), Ended>
     ensures { MatchBool (nat_lt taken due) (result ≡ Err ended.WriteFailed) (IsOk result) }
 {
@@ -38,7 +38,7 @@ pub fn all_written(taken: usize, due: usize) -> Result<(), Ended>
     Ok(())
 }
 
-/// Returns the fault that a piece brought, if it brought one.
+/// Passes where a piece brought no fault. Fails as `Fault` with the one that it brought.
 pub fn no_fault(fault: Option<Fault>) -> Result<(), Ended>
     ensures { MatchOption fault (IsOk result) (λ fault. result ≡ Err (ended.Fault fault)) }
 {

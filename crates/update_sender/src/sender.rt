@@ -36,8 +36,8 @@ pub struct WriteHalf {
 /// then encodes and writes the others, again and again. Beside the update it keeps a buffer of 65,536 bytes while it sends.
 /// It ends after `Shared::stop`, where the viewer is closed, and where it met a fault, the first of these; and where a write
 /// fails or takes no byte, memory is refused, or the gate refuses: then it closes the viewer, which stays where that is refused for
-/// memory (`Shared::close`). No lock is held but while an
-/// update is cut. The gate let each update pass, was told the length of each that was written whole, and is told the end.
+/// memory (`Shared::close`). No lock is held but while an update is cut. The gate let each update pass, was told the length of each that
+/// was written whole, and is told the end.
 pub fn serve_sender<L: Ledger, W: Write, G: Gate, R: Wait>(
     rt: &R,
     shared: &Shared<L>,

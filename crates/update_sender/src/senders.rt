@@ -1,4 +1,5 @@
-//! Senders that wait, in 64 groups by their viewers' numbers, so that a call wakes the groups alone in which it may give a sender something.
+//! Senders that wait, in 64 groups by their viewers' numbers, so that a call wakes the groups alone in which it may give a sender
+//! something.
 
 ghost use Rattle.std.specs.Prelude.{◌≡◌, vec_len};
 

@@ -83,7 +83,7 @@ impl<L: Ledger> Shared<L> {
         }
     }
 
-    /// Connects a viewer. Refused as `NumberInUse` unless its number is greater than each that connected before.
+    /// Connects a viewer. Refused as `NumberInUse` unless its number is greater than each that connected before, and else as `OutOfMemory`.
     pub fn connect<R: Wait>(&self, rt: &R, number: u64) -> Result<Line, ScreenError>
         ensures line { IfOk result (λ line. line ≡ greeted number self.now.history) }
         ensures refused { IfErr result (λ e. (e ≡ refusals.NumberInUse) ⊎ (e ≡ refusals.OutOfMemory)) }
@@ -117,7 +117,8 @@ impl<L: Ledger> Shared<L> {
         self.senders.wake(ALL_GROUPS);
     }
 
-    /// Hears a piece of a viewer's bytes. Refused as `NoViewer` where the viewer is gone.
+    /// Hears a piece of a viewer's bytes. Refused as `NoViewer` where the viewer is gone, and else as `OutOfMemory`: then nothing was
+    /// heard.
     pub fn hear<R: Wait>(
         &self,
         rt: &R,
@@ -191,7 +192,7 @@ impl<L: Ledger> Shared<L> {
     }
 
     /// Waits until there is something to send, and cuts it. None after `stop`, and where the viewer is closed or met a fault: that
-    /// it comes nowhere else, no clause says.
+    /// it comes nowhere else, no clause says. `AllocError` where memory is refused; then nothing was cut.
     pub fn cut_wait<R: Wait>(
         &self,
         rt: &R,

@@ -51,9 +51,13 @@ pub struct Shared {
 /// What an update says of the screen: nothing, its new size (RFC 6143, 7.8.2), or some rectangles of it.
 #[derive(Drop)]
 pub enum Part {
+    /// Nothing.
     Nothing,
+    /// Its new size.
     NewSize(Size),
+    /// Rectangles with their colours.
     Places(Rectangles),
+    /// Rectangles as bytes, encoded once for viewers that are alike.
     Shared(Shared),
 }
 

@@ -200,7 +200,7 @@ impl Update {
         Ok(out)
     }
 
-    /// Returns the same bytes, to be given in pieces: no more is encoded at once than a row in Raw, a row of tiles in Hextile, or a
+    /// Returns the same bytes, to be given in pieces: no more is encoded at once than 2,048 pixels in Raw, a row of tiles in Hextile, or a
     /// rectangle in RRE.
     pub fn into_stream(self) -> Stream
         ensures { result ≡ self }

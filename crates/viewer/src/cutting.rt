@@ -1,7 +1,6 @@
 //! What a viewer is sent next: its screen's size, or the rectangles that the marks chose, behind what comes first.
 
 ghost use Rattle.std.specs.Prelude.{◌≡◌, ◌≤◌, IfOk, OnOk, OnErr, [], ◌≢◌, Some, None, IfSome};
-ghost use Rattle.std.specs.Prelude.{is_some};
 ghost use Rattle.copy_schedule.specs.Marks.{cut_of};
 ghost use Rattle.viewer.specs.Sending.{with_update, sending_open, sending_kept};
 ghost use Rattle.viewer.specs.Given.{bytes_given, planned_bytes, planned_viewer, prepared_bytes, after_prepared};
@@ -37,13 +36,6 @@ impl PreparedUpdate {
         ensures { IfOk result (λ bytes. bytes.items ≡ prepared_bytes (Some self.now)) }
     {
         self.update.encode()
-    }
-
-    /// Tells whether the viewer's marks change. They know all drawing then that the viewer was told of.
-    pub fn has_marks(&self) -> bool
-        ensures { result ≡ is_some self.now.marks }
-    {
-        self.marks.is_some()
     }
 }
 

@@ -238,7 +238,7 @@ impl Viewer {
 
     /// Takes what was heard, once its marks know the drawing of `log`, and tells whether they know it now. After an `AllocError` the
     /// viewer is as it was. Inputs alone change no marks, so these needn't know it. One request, alone or among inputs, which is what
-    /// most viewers say most of the time, needs no copy of the marks.
+    /// most viewers say most of the time, needs no copy of the marks where the log has no entry.
     fn take_items(&mut self, log: &[LogEntry], items: &[Item]) -> Result<bool, AllocError>
         requires cut { All (IsCutEntry self.old.marks.width self.old.marks.height) log.now }
         ensures ok { IfOk result (λ knows_log. told_unless knows_log log.now self.new ≡

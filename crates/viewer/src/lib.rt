@@ -35,6 +35,7 @@ pub struct Reply {
 /// What comes of a piece of a viewer's bytes.
 #[derive(Drop)]
 pub struct HeardPiece {
+    /// What the viewer is answered.
     pub reply: Reply,
     /// Whether the viewer's marks know the drawing of the log now that came with the piece. Inputs alone change no marks, so they
     /// lack it as before then.

@@ -129,7 +129,7 @@ fn join_from(
     Ok(true)
 }
 
-/// Returns whether the last entry but one has more than twice as many rectangles as the last.
+/// Returns whether half of the rectangles of the last entry but one, rounded down, are more than the last has.
 fn is_last_small(log: &[LogEntry]) -> bool
     requires { 2 ≤ length log.now }
 {

@@ -1,8 +1,8 @@
 //! The viewers of a screen, and one log of the drawing that some of them lack.
 //!
 //! A viewer's marks are needed where an update is cut for it, and where its messages change them. Until then it only lags: a
-//! drawing call appends an entry to the log, which stands there once for all viewers, and visits none of them, however many there
-//! are and whatever they ask for. A viewer keeps its position in the log, and catches up before an update is cut for it, or before
+//! drawing call appends an entry to the log, which stands there once for all viewers, and looks for a first viewer that lags,
+//! whatever they ask for. A viewer keeps its position in the log, and catches up before an update is cut for it, or before
 //! bytes of it are heard that are more than inputs. Whether something is to be sent to it is read from its marks and from the
 //! entries that they lack.
 //! Contracts see each viewer as it would be had it been told of all drawing at once; the log is in no clause.

@@ -192,7 +192,7 @@ pub unsafe extern "C" fn vnc_server_process_events(at: *mut Place, milliseconds:
     ServerDesk::process_events(&mut *(at as *mut ServerDesk), milliseconds)
 }
 
-/// Lets `viewer` go in a later turn (`ServerDesk::close_viewer`).
+/// Lets `viewer` go, in the next turn (`ServerDesk::close_viewer`).
 #[unsafe(no_mangle)]
 pub unsafe extern "C" fn vnc_server_close_viewer(at: *mut Place, viewer: u64) -> i32
     ghost before: { desk_row.Denot }

@@ -7,7 +7,8 @@ use std::alloc::{AllocError, Global};
 /// Why a request is refused.
 #[derive(Clone, Copy)]
 pub enum Refusal {
-    /// 400: the bytes are no request of HTTP, or it lacks what it must have, or has twice what may come once.
+    /// 400: the bytes are no request of HTTP, it has more than `MOST_LINES` header lines, it lacks what it must have, or it has twice what
+    /// may come once.
     BadRequest,
     /// 403: its Host or its Origin is not let in.
     Forbidden,

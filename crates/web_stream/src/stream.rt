@@ -23,7 +23,8 @@ const READ_SIZE: usize = 256;
 /// A WebSocket over a stream, at the server's side.
 ///
 /// What is read is the payloads of the binary frames that the stream gives, one behind the other. What is written goes as the payloads of
-/// binary frames. A read writes nothing: what answers a ping, a close or a fault waits, as `owes` says, until `flush` or a write.
+/// binary frames. A read writes nothing: what answers a ping waits until `flush` or a write, and what answers a close or a fault until
+/// `flush`. `owes` says whether one waits that can be written now.
 #[derive(Drop)]
 pub struct WebStream<S> {
     stream: S,
@@ -186,7 +187,8 @@ impl<S: WriteBoth> WebStream<S> {
         }
     }
 
-    /// Writes once what is left of a head or a control frame. Fails as `Interrupted` where the stream below takes a part.
+    /// Writes once what is left of a head or a control frame. Fails as `Interrupted` where the stream below takes a part, and as
+    /// `WriteZero` where it takes none.
     #[tactic(auto, using(crate::proofs::WritingLemmas::one_write))]
     fn write_own(&mut self) -> io::Result<()>
         ensures kept { Keeps (contents_in S.contents self.old) (contents_in S.contents self.new) }
@@ -251,8 +253,8 @@ impl<S: WriteBoth> WebStream<S> {
         Ok(self.outward.count(written))
     }
 
-    /// Writes bytes as payload of the frame that is on its way, in one write. Fails as `Interrupted` where the stream below took bytes of the
-    /// head alone.
+    /// Writes bytes as payload of the frame that is on its way, in one write. Fails as `Interrupted` where bytes of the head were left and
+    /// the stream below took no payload.
     #[tactic(auto, using(crate::proofs::WritingLemmas::head_alone))]
     fn write_frame(&mut self, bytes: &[u8]) -> io::Result<usize>
         ensures bound { WritesAtMost result bytes.now }
@@ -273,8 +275,8 @@ impl<S: WriteBoth> Write for WebStream<S> {
     /// Writes bytes as the payload of a binary frame of their length, after a pong that waits and before a close that does. Where the stream
     /// below takes fewer, the bytes of the next write go on with that frame.
     ///
-    /// Fails as `BrokenPipe` once the close is written or on its way, and as `Interrupted` where the stream below took only bytes that are no
-    /// payload.
+    /// Fails as `BrokenPipe` once the close is written or on its way; as `Interrupted` where the stream below took no payload while bytes
+    /// that are none were to go before it; and as `WriteZero` where it took no byte of a control frame.
     #[tactic(auto, using(crate::proofs::WritingLemmas::behind_answers))]
     fn write(&mut self, bytes: &[u8]) -> io::Result<usize> {
         if self.has_closed() {
@@ -289,7 +291,8 @@ impl<S: WriteBoth> Write for WebStream<S> {
     }
 
     /// Writes the pong or the close that waits, and nothing else, unless a data frame is on its way, and flushes the stream below. Where that
-    /// goes well none waits any more that could be written.
+    /// goes well none waits any more that could be written. Fails as `Interrupted` where the stream below takes a part of it, and as
+    /// `WriteZero` where it takes none.
     fn flush(&mut self) -> io::Result<()>
         ensures kept { Keeps (contents_in S.contents self.old) (contents_in S.contents self.new) }
         ensures written { OnOk result (owes_in self.new ≡ false) }
