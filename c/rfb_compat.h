@@ -231,11 +231,12 @@ typedef struct _rfbClientRec {
  * 1 to 4 bytes: else rfbGetScreen gives NULL. It takes out of the arguments all
  * words that LibVNCServer takes out, with their values, and -record; rfbErr
  * says of each that has no effect that it has none, and rfbUsage lists them.
- * NULL too for -help, for a word whose value is missing, and where -listen's is
- * neither an IPv4 address in digits nor localhost nor any. What happens is
- * recorded in -record's file, which rfbInitServer makes, and vncdemo replay
- * reads: vnc_server_record of vnc_server.h. Such a screen is served once, as
- * its file is there the second time. */
+ * NULL too where memory is refused, for -help, for a word whose value is
+ * missing, and where -listen's is neither an IPv4 address in digits nor
+ * localhost nor any. What happens is recorded in -record's file, which
+ * rfbInitServer makes, and vncdemo replay reads: vnc_server_record of
+ * vnc_server.h. Such a screen is served once, as its file is there the second
+ * time. */
 rfbScreenInfoPtr rfbGetScreen(int *argc, char **argv, int width, int height,
                               int bitsPerSample, int samplesPerPixel,
                               int bytesPerPixel);
@@ -250,8 +251,9 @@ void rfbInitServer(rfbScreenInfoPtr s);
 
 /* Another frameBuffer, also of another size. Viewers that can't be told a new
  * size see the part of it within their own. Where it is refused, rfbErr says
- * so, and the server ends with this turn; one that no screen may have leaves
- * width and height 0, so that nothing is drawn in it. */
+ * so, and the server ends with this turn; one of more than 8192 columns or
+ * rows, or of another format than rfbGetScreen takes, leaves width and height
+ * 0, so that nothing is drawn in it. */
 void rfbNewFramebuffer(rfbScreenInfoPtr s, char *frameBuffer, int width,
                        int height, int bitsPerSample, int samplesPerPixel,
                        int bytesPerPixel);
@@ -260,6 +262,8 @@ void rfbNewFramebuffer(rfbScreenInfoPtr s, char *frameBuffer, int width,
  * FALSE, once the last one has left. */
 void rfbShutdownServer(rfbScreenInfoPtr s, rfbBool disconnectClients);
 void rfbScreenCleanup(rfbScreenInfoPtr s); /* not from a hook */
+
+/* Returns whether viewers may come, or are there still. */
 rfbBool rfbIsActive(rfbScreenInfoPtr s);
 
 /* Takes a turn, which waits so many microseconds at most, below 0
@@ -272,10 +276,16 @@ rfbBool rfbIsActive(rfbScreenInfoPtr s);
  * for all sockets, on which no accept, read or close is to be called: a select
  * loop sees it alone, and no client's. */
 rfbBool rfbProcessEvents(rfbScreenInfoPtr s, long usec);
-/* Takes turns until the server has ended; below 0 a turn waits without end. */
+/* Takes turns until the server has ended; below 0 a turn waits without end. In
+ * the background a thread of the layer's takes them, and this returns. */
 void rfbRunEventLoop(rfbScreenInfoPtr s, long usec, rfbBool runInBackground);
+
+/* Takes out the words that rfbGetScreen takes out, and does what they say.
+ * FALSE where rfbGetScreen gives NULL for one. */
 rfbBool rfbProcessArguments(rfbScreenInfoPtr s, int *argc, char **argv);
 void rfbUsage(void); /* the words of the arguments, to stderr */
+
+/* Takes out -width, -height and -bpp, with their numbers. Returns TRUE. */
 rfbBool rfbProcessSizeArguments(int *width, int *height, int *bpp, int *argc,
                                 char **argv);
 
@@ -335,6 +345,8 @@ rfbBool rfbUpdateClient(rfbClientPtr cl);
 /* Parts with a client, whether it has left or not: it is closed, its
  * clientGoneHook is called, and its record is freed. */
 void rfbClientConnectionGone(rfbClientPtr cl);
+
+/* Notes where the pointer is: cursorX and cursorY of the screen. */
 void rfbDefaultPtrAddEvent(int buttonMask, int x, int y, rfbClientPtr cl);
 
 /* Returns FALSE. */
@@ -375,6 +387,8 @@ void rfbFillRect(rfbScreenInfoPtr s, int x1, int y1, int x2, int y2,
 void rfbDrawPixel(rfbScreenInfoPtr s, int x, int y, rfbPixel colour);
 void rfbDrawLine(rfbScreenInfoPtr s, int x1, int y1, int x2, int y2,
                  rfbPixel colour);
+
+/* Draws a string, the first character at (x, y) as rfbFontBBox has it. */
 void rfbDrawString(rfbScreenInfoPtr s, rfbFontDataPtr font, int x, int y,
                    const char *text, rfbPixel colour);
 
@@ -392,6 +406,8 @@ void rfbFontBBox(rfbFontDataPtr font, unsigned char c, int *x1, int *y1,
 
 /* Loads 256 characters of 8 by 16; NULL where there are none. */
 rfbFontDataPtr rfbLoadConsoleFont(char *filename);
+
+/* Frees a font that was loaded. */
 void rfbFreeFont(rfbFontDataPtr font);
 
 /* A box to select from, by the arrows or the first button; Return takes, Escape
@@ -415,6 +431,8 @@ void rfbSetCursor(rfbScreenInfoPtr s, rfbCursorPtr c);
 
 /* Both write to stderr, unless the program sets another. */
 extern rfbLogProc rfbLog, rfbErr;
+
+/* Has both write nothing where it is FALSE, and write again where it is not. */
 void rfbLogEnable(int enabled);
 
 #ifdef __cplusplus

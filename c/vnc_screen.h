@@ -31,9 +31,11 @@
  *            that say otherwise. VNC_ERROR_NO_MEMORY may come from each call
  *            that opens, draws, hears, cuts or fetches output, or says so.
  * Held       What waits for a viewer is bounded: the server's words of the
- *            opening, some 300 bytes, and one update, which holds 4 bytes for
- *            each pixel and is encoded as it is fetched; so does a vnc_update.
- *            Inputs wait until they are fetched.
+ *            opening, some 300 bytes; one update, which holds 4 bytes for each
+ *            pixel and is encoded as it is fetched, as a vnc_update is; and up
+ *            to 64 bells and texts for the next update, each text once for all
+ *            viewers. An update has those that waited as it was cut. Inputs
+ *            wait until they are fetched.
  * Undefined  A pointer to a screen or an update that is null, freed, not
  *            initialised or moved; a buffer or data that is smaller than its
  *            count says; two calls for one of them at once; a call from a
@@ -319,11 +321,12 @@ int32_t vnc_screen_schedule_copy_region(vnc_screen *screen,
                                         const vnc_rect *rects, size_t count,
                                         int32_t dx, int32_t dy);
 
-/* Rings all viewers' bells (rfbSendBell). */
+/* Rings the bell of each viewer that is open and for which fewer than 64 bells
+ * and texts wait (rfbSendBell). */
 int32_t vnc_screen_bell(vnc_screen *screen);
 
-/* Sends all viewers a copied text (rfbSendServerCutText). Or
- * VNC_ERROR_TEXT_TOO_LONG. */
+/* Sends a copied text to each viewer that is open and for which fewer than 64
+ * bells and texts wait (rfbSendServerCutText). Or VNC_ERROR_TEXT_TOO_LONG. */
 int32_t vnc_screen_cut_text(vnc_screen *screen,
                             const uint8_t *text, size_t count);
 

@@ -35,11 +35,12 @@
  *            VNC_ERROR_NETWORK, VNC_ERROR_CLOCK, VNC_ERROR_BAD_SOCKET and
  *            VNC_ERROR_CANNOT_ADOPT.
  * Held       For each viewer one update on its way, which holds 4 bytes for
- *            each pixel, and what its socket didn't take of 64 KB. Inputs and
- *            events wait until they are fetched: at most 4,096 inputs with 4 MB
- *            of texts, and 1,024 events. What comes when there is no more room,
- *            and an input for which there is no memory, is lost and counted:
- *            vnc_server_lost_count.
+ *            each pixel, what its socket didn't take of 64 KB, and up to 64
+ *            bells and texts for the next update, each text once for all
+ *            viewers. Inputs and events wait until they are fetched: at most
+ *            4,096 inputs with 4 MB of texts, and 1,024 events. What comes when
+ *            there is no more room, and an input for which there is no memory,
+ *            is lost and counted: vnc_server_lost_count.
  * Security   None but the address: who reaches the port sees the picture, and
  *            can send inputs. Whose connection is adopted, the program
  *            decides. No call raises SIGPIPE.
@@ -72,6 +73,7 @@ extern "C" {
 /* A server; what it consists of is the library's alone. */
 typedef struct vnc_server vnc_server;
 
+/* What came to pass with a viewer. */
 enum vnc_event_kind {
     VNC_EVENT_CONNECTED = 1,
     VNC_EVENT_DISCONNECTED = 2
@@ -257,6 +259,7 @@ static inline int32_t vnc_server_record(vnc_server *server, const char *path)
     return vnc_server_record_n(server, (const uint8_t *)path, strlen(path));
 }
 
+/* Whether what is served is recorded. */
 enum vnc_record_state {
     VNC_RECORD_NONE = 0,
     VNC_RECORD_WRITTEN = 1,
@@ -382,15 +385,16 @@ int32_t vnc_server_text(const vnc_server *server,
 int64_t vnc_server_next_events(vnc_server *server,
                                vnc_event *buffer, size_t count);
 
-/* Returns how many inputs and events were lost since vnc_server_listen: each
- * that was not kept, and no other. A viewer whose coming was lost is served all
- * the same: vnc_server_numbers has it. */
+/* Returns how many inputs and events were lost since vnc_server_listen or
+ * vnc_server_serve: each that was not kept, and no other. A viewer whose coming
+ * was lost is served all the same: vnc_server_numbers has it. */
 int64_t vnc_server_lost_count(const vnc_server *server);
 
-/* Returns how often, since vnc_server_listen, viewers asked for pixels whether
- * these changed or not, by requests that aren't incremental (7.5.3): more than
- * before a turn where one did in it. A program that draws without saying so
- * takes its pixels in then. vnc_settings has how many a viewer made.
+/* Returns how often, since vnc_server_listen or vnc_server_serve, viewers asked
+ * for pixels whether these changed or not, by requests that aren't incremental
+ * (7.5.3): more than before a turn where one did in it. A program that draws
+ * without saying so takes its pixels in then. vnc_settings has how many a
+ * viewer made.
  * (clientFramebufferUpdateRequestHook, which is called for each request.) */
 int64_t vnc_server_full_request_count(const vnc_server *server);
 
@@ -442,7 +446,7 @@ int32_t vnc_server_close_viewer(vnc_server *server, uint64_t viewer);
 int32_t vnc_server_viewer_address_n(const vnc_server *server, uint64_t viewer,
                                     uint8_t *buffer, size_t count);
 
-/* How many bytes the longest address takes, with the zero behind it. */
+/* Enough bytes for each address: the longest takes 40, with the zero. */
 #define VNC_ADDRESS_SIZE 47
 
 /* Copies the IP address that a viewer comes from into `buffer`, in digits, as
@@ -565,11 +569,12 @@ int32_t vnc_server_schedule_copy_region(vnc_server *server,
                                         const vnc_rect *rects, size_t count,
                                         int32_t dx, int32_t dy);
 
-/* Rings all viewers' bells (rfbSendBell). */
+/* Rings the bell of each viewer that is open and for which fewer than 64 bells
+ * and texts wait (rfbSendBell). */
 int32_t vnc_server_bell(vnc_server *server);
 
-/* Sends all viewers a copied text (rfbSendServerCutText). Or
- * VNC_ERROR_TEXT_TOO_LONG. */
+/* Sends a copied text to each viewer that is open and for which fewer than 64
+ * bells and texts wait (rfbSendServerCutText). Or VNC_ERROR_TEXT_TOO_LONG. */
 int32_t vnc_server_cut_text(vnc_server *server,
                             const uint8_t *text, size_t count);
 

@@ -93,6 +93,7 @@ typedef struct vnc_rect {
     int32_t x1, y1, x2, y2;
 } vnc_rect;
 
+/* Which of a viewer's inputs it is. */
 enum vnc_input_kind {
     VNC_INPUT_KEY = 1,
     VNC_INPUT_POINTER = 2,
@@ -111,8 +112,9 @@ typedef struct vnc_input {
     uint32_t shortened; /* of a text: 1 if it was longer, and is cut there */
 } vnc_input;
 
-/* What a viewer has set by its messages (7.3.1, 7.5.1, 7.5.2). A later version
- * may add fields behind these: the calls are handed the size of this struct. */
+/* What a viewer has set by its messages (7.3.1, 7.5.1 to 7.5.3). A later
+ * version may add fields behind these: the calls are handed the size of this
+ * struct. */
 typedef struct vnc_settings {
     uint32_t shared;         /* 1 if its ClientInit asked others to stay */
     uint32_t encoding;       /* its first of 0 Raw, 2 RRE, 5 Hextile */
@@ -121,7 +123,7 @@ typedef struct vnc_settings {
     uint32_t bits_per_pixel; /* of its pixel format (7.4): 8, 16 or 32 */
     uint32_t depth;          /* how many of these bits are used, as it said */
     uint32_t big_endian;     /* 1 if a pixel's highest byte comes first */
-    uint32_t true_colour;    /* 0 with a colour map, and all below is 0 */
+    uint32_t true_colour;    /* 0 with a colour map, and the six below are 0 */
     uint32_t red_max;        /* the greatest value of its red */
     uint32_t green_max;
     uint32_t blue_max;
@@ -135,9 +137,9 @@ typedef struct vnc_settings {
  * above its shift, under the mask of its maximum. */
 typedef struct vnc_pixel_format {
     uint32_t bytes_per_pixel; /* 1 to 4 */
-    uint32_t big_endian;
-    uint32_t red_max, green_max, blue_max;
-    uint32_t red_shift, green_shift, blue_shift;
+    uint32_t big_endian;      /* 1 if a pixel's highest byte comes first */
+    uint32_t red_max, green_max, blue_max;       /* the greatest values */
+    uint32_t red_shift, green_shift, blue_shift; /* how many bits are below */
 } vnc_pixel_format;
 
 /* The library lays these structs out as this compiler does. */
